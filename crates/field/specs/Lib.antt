@@ -1,0 +1,4 @@
+pub mod Field
+pub mod Checked
+pub mod Laws
+pub mod Unique

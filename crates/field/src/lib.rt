@@ -1,0 +1,47 @@
+// GF(16): polynomials over GF(2) modulo x⁴ + x + 1, an element to a byte. Sums are exclusive or; products read their factors modulo 16, so no caller owes a bound.
+// No table: a `const` array is copied at each look-up, and this arithmetic is vectorised where it stands in a loop.
+ghost use mathlib.Core.Path.{_≡_};
+ghost use Rattle.field.specs.Field.{add as sum, mul as product, inverse as inverseOf, chosenOf};
+
+// a + b: exclusive or.
+pub fn add(a: u8, b: u8) -> u8
+    ensures { λ r. ⌜ r ≡ sum a b ⌝ }
+{
+    a ^ b
+}
+
+// x · a.
+pub fn twice(a: u8) -> u8
+    ensures { λ r. ⌜ r ≡ product 2 a ⌝ }
+{
+    let x = a % 16;
+    (x * 2 % 16) ^ (x / 8 * 3)
+}
+
+// The sum of those of x1, x2, x4, x8 whose coefficient b has.
+pub fn chosen(x1: u8, x2: u8, x4: u8, x8: u8, b: u8) -> u8
+    ensures { λ r. ⌜ r ≡ chosenOf x1 x2 x4 x8 b ⌝ }
+{
+    (x1 * (b % 2)) ^ ((x2 * (b / 2 % 2)) ^ ((x4 * (b / 4 % 2)) ^ (x8 * (b / 8 % 2))))
+}
+
+// a · b: the multiples of a by 1, x, x², x³, those chosen that b has.
+pub fn mul(a: u8, b: u8) -> u8
+    ensures { λ r. ⌜ r ≡ product a b ⌝ }
+{
+    let a1 = a % 16;
+    let a2 = twice(a1);
+    let a4 = twice(a2);
+    let a8 = twice(a4);
+    chosen(a1, a2, a4, a8, b)
+}
+
+// The element whose product with a is 1; 0 for 0. It is the fourteenth power.
+pub fn inverse(a: u8) -> u8
+    ensures { λ r. ⌜ r ≡ inverseOf a ⌝ }
+{
+    let a2 = mul(a, a);
+    let a4 = mul(a2, a2);
+    let a8 = mul(a4, a4);
+    mul(a2, mul(a4, a8))
+}

@@ -1,0 +1,66 @@
+-- Answers and refusals: an operation's refusals are one list of (number, what must be met), in order, and the lowest that applies is given.
+-- Rests on Pick.
+use mathlib.Core.Path.{_≡_, refl}
+use mathlib.Core.Bool.{Bool, true, false}
+use mathlib.Core.List.{List, [], _∷_, _++_}
+use Prim.Native.Nat.{ℕ}
+use lib.Dec.{eqb}
+use Rattle.ground.specs.Pick.{pick}
+use Rattle.ground.specs.declared.Answer.{Answer}
+use Rattle.ground.specs.declared.Answer.the-variants.{Done, Refused}
+
+-- a refusal: its number, given unless the condition is met
+pub record Rule : Type 0 where
+  pub number : ℕ
+  pub met : Bool
+
+abbrev pub unless : ℕ → Bool → Rule
+unless n b = record { number = n; met = b }
+
+-- the number of the first rule that is not met, or 0: the lists below are in rising order, so the first is the lowest
+unfoldable pub lowest : List Rule → ℕ
+lowest [] = 0
+lowest (r ∷ rs) = pick (r .met) (lowest rs) (r .number)
+
+-- the page's number of an answer that has nothing but done and refused
+abbrev pub numberOf : Answer → ℕ
+numberOf Done = 0
+numberOf (Refused n) = n
+
+-- the answer of a number: 0 is done
+abbrev pub answerOf : ℕ → Answer
+answerOf n = pick (eqb n 0) Done (Refused n)
+
+-- every rule of the list is met
+pub data Met : List Rule → Type 0 where
+  met-none : Met []
+  met-more : {r : Rule} {rs : List Rule} → r .met ≡ true → Met rs → Met (r ∷ rs)
+
+-- with every rule met there is no refusal
+pub lowest-met : {rs : List Rule} → Met rs → lowest rs ≡ 0
+unfolding lowest
+lowest-met met-none = refl
+lowest-met (met-more {r = r} {rs = rs} e m) = rw e (lowest-met m)
+
+-- the number given is that of the first rule that is not met
+pub lowest-first : {before : List Rule} (n : ℕ) (after : List Rule) → Met before → lowest (before ++ (unless n false ∷ after)) ≡ n
+unfolding lowest
+lowest-first n after met-none = refl
+lowest-first n after (met-more {r = r} {rs = rs} e m) = rw e (lowest-first n after m)
+
+-- rules that follow others are looked at where those before are all met
+pub lowest-append : {rs : List Rule} (rs′ : List Rule) → Met rs → lowest (rs ++ rs′) ≡ lowest rs′
+unfolding lowest
+lowest-append rs′ met-none = refl
+lowest-append rs′ (met-more {r = r} {rs = rs} e m) = rw e (lowest-append rs′ m)
+
+-- and where one of those before is not met, its number stands, whatever follows
+pub lowest-stands : (rs rs′ : List Rule) → (lowest rs ≡ 0 → ⊥) → lowest (rs ++ rs′) ≡ lowest rs
+unfolding lowest
+lowest-stands [] rs′ n = absurd (n refl)
+lowest-stands (r ∷ rs) rs′ n = by (r .met) refl (λ z. lowest-stands rs rs′ z)
+  where
+    by : (b : Bool) → r .met ≡ b → ((lowest rs ≡ 0 → ⊥) → lowest (rs ++ rs′) ≡ lowest rs)
+        → pick (r .met) (lowest (rs ++ rs′)) (r .number) ≡ pick (r .met) (lowest rs) (r .number)
+    by true e h = rw e (h (λ z. n (rw e z)))
+    by false e h = rw e

@@ -1,0 +1,7 @@
+pub mod Pick
+pub mod Tests
+pub mod Fill
+pub mod Segment
+pub mod Place
+pub mod Answers
+pub mod Outcome

@@ -1,0 +1,25 @@
+-- Choosing by a test, and a row of tests.
+-- Rests on nothing.
+use mathlib.Core.Path.{_≡_, refl}
+use mathlib.Core.Bool.{Bool, true, false}
+
+-- the first where the test holds, else the second
+abbrev pub pick : {A : Type 0} → Bool → A → A → A
+pick true a b = a
+pick false a b = b
+
+-- both tests hold
+abbrev pub both : Bool → Bool → Bool
+both true b = b
+both false b = false
+
+pub both-left : (a b : Bool) → both a b ≡ true → a ≡ true
+both-left true b t = refl
+both-left false b t = t
+
+pub both-right : (a b : Bool) → both a b ≡ true → b ≡ true
+both-right true b t = t
+both-right false b t = cc
+
+pub both-true : {a b : Bool} → a ≡ true → b ≡ true → both a b ≡ true
+both-true {a} {b} p q = cc

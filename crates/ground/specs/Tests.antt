@@ -1,0 +1,34 @@
+-- Tests over small ranges: a law about all numbers below n is proved by computing one test.
+-- Rests on Pick.
+use mathlib.Core.Path.{_≡_, refl, subst, sym}
+use mathlib.Core.Bool.{Bool, true, false}
+use Prim.Native.Nat.{ℕ, zero, suc, _<_, _≤_}
+use native.Mathlib.Nat.{le-of-suc-le-suc, not-suc-le-zero}
+use native.Mathlib.Decide.{decLt}
+use native.Mathlib.Omega.{arith}
+use lib.Dec.{T}
+use Rattle.ground.specs.Pick.{both}
+
+-- the test holds of every number below n
+abbrev pub every : ℕ → (ℕ → Bool) → Bool
+every zero f = true
+every (suc n) f = both (f n) (every n f)
+
+first : (a b : Bool) → T (both a b) → T a
+first true b t = tt
+first false b t = t
+
+rest : (a b : Bool) → T (both a b) → T b
+rest true b t = t
+rest false b t = absurd t
+
+pub below : (n : ℕ) (f : ℕ → Bool) → T (every n f) → (k : ℕ) → k < n → T (f k)
+below zero f t k h = absurd (not-suc-le-zero h)
+below (suc n) f t k h =
+    elim (decLt k n) [ yes l ↦ below n f (rest (f n) (every n f) t) k l | no l ↦ subst (λ (m : ℕ). T (f m)) (sym (omega arith)) (first (f n) (every n f) t) ]
+
+pub below2 : (n : ℕ) (f : ℕ → ℕ → Bool) → T (every n (λ a. every n (f a))) → (a b : ℕ) → a < n → b < n → T (f a b)
+below2 n f t a b ha hb = below n (f a) (below n (λ x. every n (f x)) t a ha) b hb
+
+pub below3 : (n : ℕ) (f : ℕ → ℕ → ℕ → Bool) → T (every n (λ a. every n (λ b. every n (f a b)))) → (a b c : ℕ) → a < n → b < n → c < n → T (f a b c)
+below3 n f t a b c ha hb hc = below n (f a b) (below2 n (λ x y. every n (f x y)) t a b ha hb) c hc
