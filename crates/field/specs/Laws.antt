@@ -102,6 +102,9 @@ mul-assoc a b c =
     ∙ eqb→eq _ _ (below3 16 (λ x y z. eqb (times (times x y) z) (times x (times y z))) assoc-test (a % 16) (b % 16) (c % 16) (digit a) (digit b) (digit c))
     ∙ ap (times (a % 16)) (sym (mul-mod b c))
 
+pub mul-left-comm : (a b c : ℕ) → mul a (mul b c) ≡ mul b (mul a c)
+mul-left-comm a b c = sym (mul-assoc a b c) ∙ ap (λ x. mul x c) (mul-comm a b) ∙ mul-assoc b a c
+
 pub mul-add : (a b c : ℕ) → mul a (add b c) ≡ add (mul a b) (mul a c)
 unfolding mul add
 mul-add a b c =

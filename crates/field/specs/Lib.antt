@@ -2,3 +2,4 @@ pub mod Field
 pub mod Checked
 pub mod Laws
 pub mod Unique
+pub mod FieldRing
