@@ -1,0 +1,35 @@
+-- `packing::unpack` meets its contract: by the number of the lowest rule, either all is written or nothing.
+-- Rests on `writes-by` and on what `unpack_refusal` and `unpack_all` ensure.
+use mathlib.Core.Path.{sym, ap, _∙_}
+use mathlib.Core.Logic.{⊎-elim, ⊎-map}
+use lib.ListN.{length}
+use Rattle.ground.specs.Answers.{answerOf}
+use Rattle.packing.specs.Refusals.{writes-by, unpack-allowed}
+use borrow.Author.Needs.{needs}
+use Rattle.packing.proofs.unpack.Statement.{statement}
+use Rattle.packing.proofs.unpack.Tie as tie
+
+unpack-refusal-requires : tie.Need-unpack-refusal-requires
+unpack-refusal-requires c κs = search needs
+
+unpack-all-requires : tie.Need-unpack-all-requires
+unpack-all-requires c κs =
+    let at = c .before .before in
+    unpack-allowed _ _ (sym (at .unpack-refusal .ensures) ∙ c .before .if1 .taken)
+
+answer-of-requires : tie.Need-answer-of-requires
+answer-of-requires c κs = search needs
+
+same-length : tie.Need-same-length
+same-length c = ⊎-elim (λ w. ap length (w .5) ∙ w .2 .kept .1 .0) (λ w. ap length (w .1)) (c .before .if1 .came)
+
+returns : tie.Need-returns
+returns c =
+    let number = c .before .before .unpack-refusal .ensures in
+    writes-by (c .answer-of .ensures ∙ ap answerOf number)
+    (⊎-map (λ w. (sym number ∙ w .0 .taken, w .5 ∙ w .2 .ensures)) (λ w. (λ z. w .0 .left (number ∙ z), w .1)) (c .before .if1 .came))
+
+pub unpack-spec : {M : Type 1} → statement M
+unpack-spec =
+    tie.close
+    (tie.spec unpack-refusal-requires unpack-all-requires answer-of-requires same-length returns)
