@@ -1,13 +1,13 @@
 -- Tests over small ranges: a law about all numbers below n is proved by computing one test.
 -- Rests on Pick.
-use mathlib.Core.Path.{_≡_, refl, subst, sym}
+use mathlib.Core.Path.{_≡_, refl, ap, ap₂, subst, sym, _∙_}
 use mathlib.Core.Bool.{Bool, true, false}
 use Prim.Native.Nat.{ℕ, zero, suc, _<_, _≤_}
 use native.Mathlib.Nat.{le-of-suc-le-suc, not-suc-le-zero}
 use native.Mathlib.Decide.{decLt}
 use native.Mathlib.Omega.{arith}
 use lib.Dec.{T}
-use Rattle.ground.specs.Pick.{both}
+use Rattle.ground.specs.Pick.{both, both-left, both-right, both-true}
 
 -- the test holds of every number below n
 abbrev pub every : ℕ → (ℕ → Bool) → Bool
@@ -32,3 +32,21 @@ below2 n f t a b ha hb = below n (f a) (below n (λ x. every n (f x)) t a ha) b 
 
 pub below3 : (n : ℕ) (f : ℕ → ℕ → ℕ → Bool) → T (every n (λ a. every n (λ b. every n (f a b)))) → (a b c : ℕ) → a < n → b < n → c < n → T (f a b c)
 below3 n f t a b c ha hb hc = below n (f a b) (below2 n (λ x y. every n (f x y)) t a b ha hb) c hc
+
+-- the test as a fact: it holds exactly where each test does
+
+pub every-at : (n : ℕ) (f : ℕ → Bool) → every n f ≡ true → (k : ℕ) → k < n → f k ≡ true
+every-at zero f e k h = absurd (not-suc-le-zero h)
+every-at (suc n) f e k h =
+    elim (decLt k n) [
+      | yes l ↦ every-at n f (both-right (f n) (every n f) e) k l
+      | no l ↦ let at : k ≡ n = omega arith in ap f at ∙ both-left (f n) (every n f) e
+    ]
+
+pub every-true : (n : ℕ) (f : ℕ → Bool) → ((k : ℕ) → k < n → f k ≡ true) → every n f ≡ true
+every-true zero f e = refl
+every-true (suc n) f e = both-true (e n (omega arith)) (every-true n f (λ k h. e k (omega arith)))
+
+pub every-cong : (n : ℕ) (f g : ℕ → Bool) → ((k : ℕ) → k < n → f k ≡ g k) → every n f ≡ every n g
+every-cong zero f g e = refl
+every-cong (suc n) f g e = ap₂ both (e n (omega arith)) (every-cong n f g (λ k h. e k (omega arith)))

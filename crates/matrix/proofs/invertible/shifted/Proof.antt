@@ -1,0 +1,27 @@
+-- `matrix::shifted` meets its contract: blocks that hold the same entries inside l are equal.
+use mathlib.Core.Path.{_∙_}
+use borrow.Author.Needs.{needs}
+use Rattle.matrix.specs.Same.{same-refl, same-trans, same-add, same-scale}
+use Rattle.matrix.specs.Block.{holds, block-same}
+use Rattle.matrix.specs.Invertible.{shift}
+use Rattle.matrix.proofs.invertible.shifted.Statement.{statement}
+use Rattle.matrix.proofs.invertible.shifted.Tie as tie
+
+s-matrix-requires : tie.Need-s-matrix-requires
+s-matrix-requires c κs = search needs
+
+scaled-requires : tie.Need-scaled-requires
+scaled-requires c κs = search needs
+
+plus-requires : tie.Need-plus-requires
+plus-requires c κs = search needs
+
+returns : tie.Need-returns
+unfolding shift
+returns c =
+    let in' = c .before .before .before in
+    c .plus .ensures
+    ∙ block-same (same-add same-refl (same-trans (holds (in' .pre) (c .before .scaled .ensures)) (same-scale (in' .args .a) (holds (in' .pre) (c .before .before .s-matrix .ensures)))))
+
+pub shifted-spec : {M : Type 1} → statement M
+shifted-spec = tie.close (tie.spec s-matrix-requires scaled-requires plus-requires returns)

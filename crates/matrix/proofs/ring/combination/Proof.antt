@@ -1,0 +1,86 @@
+-- `matrix::combination` meets its contract. The invariant: the block of S to the k, and the block of the first k terms of Algorithm 1's sum.
+use mathlib.Core.Path.{_≡_, sym, ap, _∙_}
+use Prim.Native.Nat.{_≤_, _-_}
+use native.Mathlib.Omega.{arith}
+use borrow.Author.Needs.{needs}
+use lib.ListN.{getD}
+use Rattle.matrix.specs.RingElements.{powerS, coefficient}
+use Rattle.matrix.specs.Block.{block}
+use Rattle.matrix.specs.Steps.{powerS-none, terms}
+use Rattle.matrix.specs.RingSteps.{power-step, terms-start, terms-step, terms-all}
+use Rattle.matrix.proofs.ring.combination.Statement.{statement}
+use Rattle.matrix.proofs.ring.combination.Tie as tie
+
+abbrev Inv-loop : tie.InvT-loop
+Inv-loop l a s power₀ sum₀ k₀ power sum k = (k ≤ l) × ((power ≡ block l (powerS l k)) × (sum ≡ block l (terms l (coefficient l (λ j. getD a j 0)) k)))
+
+abbrev μ-loop : tie.MeasureT-loop
+μ-loop l a s power₀ sum₀ k₀ power sum k = l - k
+
+s-matrix-requires : tie.Need-s-matrix-requires Inv-loop μ-loop
+s-matrix-requires c κs = search needs
+
+one-requires : tie.Need-one-requires Inv-loop μ-loop
+one-requires c κs = search needs
+
+no-block-requires : tie.Need-no-block-requires Inv-loop μ-loop
+no-block-requires c κs = search needs
+
+loop-holds : tie.Need-loop-holds Inv-loop μ-loop
+loop-holds c = (omega arith, (c .before .one .ensures ∙ ap (block _) (sym (powerS-none _)), terms-start _ _ (c .no-block .ensures)))
+
+coefficient-requires : tie.Need-coefficient-requires Inv-loop μ-loop
+coefficient-requires c κs = search needs
+
+scaled-requires : tie.Need-scaled-requires Inv-loop μ-loop
+scaled-requires c κs = search needs
+
+plus-requires : tie.Need-plus-requires Inv-loop μ-loop
+plus-requires c κs = search needs
+
+product-requires : tie.Need-product-requires Inv-loop μ-loop
+product-requires c κs = search needs
+
+add-k : tie.Need-add-k Inv-loop μ-loop
+add-k c = search needs
+
+loop-less : tie.Need-loop-less Inv-loop μ-loop
+loop-less c = search needs
+
+loop-again : tie.Need-loop-again Inv-loop μ-loop
+loop-again c =
+    let at = c .before .before .before .before .before in
+    let in' = at .before .before .before .before in
+    let small = in' .pre .1 .0 in
+    let powers = at .loop .inv .1 .0 in (
+      omega arith,
+      (
+        power-step small (at .loop .k) (at .before .before .before .s-matrix .ensures) powers (c .product .ensures),
+        terms-step small _ (at .loop .k) (at .loop .inv .1 .1) powers (c .before .before .before .coefficient .ensures) (c .before .before .scaled .ensures) (c .before .plus .ensures),
+      ),
+    )
+
+returns : tie.Need-returns Inv-loop μ-loop
+returns c =
+    let in' = c .before .before .before .before .before .args in
+    let all : c .before .loop .k ≡ in' .l = omega arith in
+    cc (terms-all (in' .l) (λ j. getD (in' .a) j 0))
+
+pub combination-spec : {M : Type 1} → statement M
+combination-spec =
+    tie.close
+    (tie.spec
+    Inv-loop
+    μ-loop
+    s-matrix-requires
+    one-requires
+    no-block-requires
+    loop-holds
+    coefficient-requires
+    scaled-requires
+    plus-requires
+    product-requires
+    add-k
+    loop-less
+    loop-again
+    returns)

@@ -1,0 +1,58 @@
+-- `matrix::s_power` meets its contract. The invariant: after i products the block is that of S to the i.
+use mathlib.Core.Path.{_≡_, sym, ap, _∙_}
+use Prim.Native.Nat.{_≤_, _-_}
+use native.Mathlib.Omega.{arith}
+use borrow.Author.Needs.{needs}
+use Rattle.matrix.specs.RingElements.{powerS}
+use Rattle.matrix.specs.Block.{block}
+use Rattle.matrix.specs.Steps.{powerS-none}
+use Rattle.matrix.specs.RingSteps.{power-step}
+use Rattle.matrix.proofs.ring.s_power.Statement.{statement}
+use Rattle.matrix.proofs.ring.s_power.Tie as tie
+
+abbrev Inv-loop : tie.InvT-loop
+Inv-loop l k s power₀ i₀ power i = (i ≤ k) × (power ≡ block l (powerS l i))
+
+abbrev μ-loop : tie.MeasureT-loop
+μ-loop l k s power₀ i₀ power i = k - i
+
+s-matrix-requires : tie.Need-s-matrix-requires Inv-loop μ-loop
+s-matrix-requires c κs = search needs
+
+one-requires : tie.Need-one-requires Inv-loop μ-loop
+one-requires c κs = search needs
+
+loop-holds : tie.Need-loop-holds Inv-loop μ-loop
+loop-holds c = (omega arith, c .one .ensures ∙ ap (block _) (sym (powerS-none _)))
+
+product-requires : tie.Need-product-requires Inv-loop μ-loop
+product-requires c κs = search needs
+
+add-i : tie.Need-add-i Inv-loop μ-loop
+add-i c = search needs
+
+loop-less : tie.Need-loop-less Inv-loop μ-loop
+loop-less c = search needs
+
+loop-again : tie.Need-loop-again Inv-loop μ-loop
+loop-again c =
+    let at = c .before .before in
+    (omega arith, power-step (at .before .before .before .pre) (at .loop .i) (at .before .before .s-matrix .ensures) (at .loop .inv .1) (c .product .ensures))
+
+returns : tie.Need-returns Inv-loop μ-loop
+returns c = let all : c .before .loop .i ≡ c .before .before .before .before .args .k = omega arith in cc
+
+pub s-power-spec : {M : Type 1} → statement M
+s-power-spec =
+    tie.close
+    (tie.spec
+    Inv-loop
+    μ-loop
+    s-matrix-requires
+    one-requires
+    loop-holds
+    product-requires
+    add-i
+    loop-less
+    loop-again
+    returns)

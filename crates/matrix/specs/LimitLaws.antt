@@ -1,0 +1,88 @@
+-- What the tests of Limits say: a row of tests holds where each does, and fails where one does.
+-- Rests on Limits and Block.
+use mathlib.Core.Path.{_≡_, refl, ap, _∙_}
+use mathlib.Core.Bool.{Bool, true, false}
+use Prim.Native.Nat.{ℕ, zero, suc, _+_, _*_, _/_, _%_, _<_, _≤_}
+use native.Mathlib.Nat.{not-suc-le-zero}
+use native.Mathlib.Decide.{decLt}
+use native.Mathlib.Omega.{arith}
+use borrow.Author.Tests.{lt-ltb, le-ltb, ltb-true, leb-true}
+use lib.Dec.{leb, ltb}
+use Rattle.ground.specs.Pick.{both, both-left, both-right, both-true}
+use Rattle.ground.specs.Tests.{every}
+use Rattle.matrix.specs.Matrix.{Matrix}
+use Rattle.matrix.specs.Block.{inside, inside-row, inside-column, cell, cell-at}
+use Rattle.matrix.specs.Limits.{leastSize, mostSize, sizeAllowed, entriesAllowed, coefficientsAllowed}
+
+-- ---- a test of every number below n
+
+every-true : (n : ℕ) (f : ℕ → Bool) → ((k : ℕ) → k < n → f k ≡ true) → every n f ≡ true
+every-true zero f h = refl
+every-true (suc n) f h = both-true (h n (omega arith)) (every-true n f (λ k l. h k (omega arith)))
+
+every-false : (n : ℕ) (f : ℕ → Bool) (k : ℕ) → k < n → f k ≡ false → every n f ≡ false
+every-false zero f k h e = absurd (not-suc-le-zero h)
+every-false (suc n) f k h e = elim (decLt k n) [ yes l ↦ rw (every-false n f k l e) (none (f n)) | no l ↦ let here : n ≡ k = omega arith in rw (here, e) ]
+  where
+    none : (b : Bool) → both b false ≡ false
+    none true = refl
+    none false = refl
+
+every-below : (n : ℕ) (f : ℕ → Bool) → every n f ≡ true → (k : ℕ) → k < n → f k ≡ true
+every-below zero f t k h = absurd (not-suc-le-zero h)
+every-below (suc n) f t k h =
+    elim (decLt k n) [
+      | yes l ↦ every-below n f (both-right (f n) (every n f) t) k l
+      | no l ↦ let here : k ≡ n = omega arith in ap f here ∙ both-left (f n) (every n f) t
+    ]
+
+-- ---- sizes
+
+pub allowed-least : (l : ℕ) → sizeAllowed l ≡ true → leastSize ≤ l
+unfolding sizeAllowed
+allowed-least l t = leb-true leastSize l (both-left (leb leastSize l) (leb l mostSize) t)
+
+pub allowed-most : (l : ℕ) → sizeAllowed l ≡ true → l ≤ mostSize
+unfolding sizeAllowed
+allowed-most l t = leb-true l mostSize (both-right (leb leastSize l) (leb l mostSize) t)
+
+-- ---- coefficients
+
+pub coefficients-pass : (l : ℕ) (a : ℕ → ℕ) → ((k : ℕ) → k < l → a k < 16) → coefficientsAllowed l a ≡ true
+unfolding coefficientsAllowed
+coefficients-pass l a h = every-true l _ (λ k hk. lt-ltb (a k) 16 (h k hk))
+
+pub coefficients-fail : (l : ℕ) (a : ℕ → ℕ) (k : ℕ) → k < l → 15 < a k → coefficientsAllowed l a ≡ false
+unfolding coefficientsAllowed
+coefficients-fail l a k hk h = every-false l _ k hk (le-ltb (a k) 16 h)
+
+pub coefficients-lt : (l : ℕ) (a : ℕ → ℕ) → coefficientsAllowed l a ≡ true → (k : ℕ) → k < l → a k < 16
+unfolding coefficientsAllowed
+coefficients-lt l a t k h = ltb-true (a k) 16 (every-below l (λ k. ltb (a k) 16) t k h)
+
+-- ---- entries
+
+pub entries-pass : (l : ℕ) (M : Matrix) → ((r c : ℕ) → r < l → c < l → M r c < 16) → entriesAllowed l M ≡ true
+unfolding entriesAllowed
+entries-pass l M h = every-true l _ (λ r hr. every-true l _ (λ c hc. lt-ltb (M r c) 16 (h r c hr hc)))
+
+pub entries-fail : (l : ℕ) (M : Matrix) (r c : ℕ) → r < l → c < l → 15 < M r c → entriesAllowed l M ≡ false
+unfolding entriesAllowed
+entries-fail l M r c hr hc h = every-false l _ r hr (every-false l _ c hc (le-ltb (M r c) 16 h))
+
+pub entries-lt : (l : ℕ) (M : Matrix) → entriesAllowed l M ≡ true → (r c : ℕ) → r < l → c < l → M r c < 16
+unfolding entriesAllowed
+entries-lt l M t r c hr hc =
+    ltb-true (M r c) 16 (every-below l (λ c. ltb (M r c) 16) (every-below l (λ r. every l (λ c. ltb (M r c) 16)) t r hr) c hc)
+
+-- the same, asked of the block's bytes
+pub cells-pass : (l : ℕ) (M : Matrix) → l ≤ 5 → ((e : ℕ) → e < 25 → cell l M e < 16) → entriesAllowed l M ≡ true
+cells-pass l M h below = entries-pass l M (λ r c hr hc. rw (cell-at l M r c h hr hc) at (below (r * 5 + c) (omega arith)))
+
+pub cells-fail : (l : ℕ) (M : Matrix) (e : ℕ) → 15 < cell l M e → entriesAllowed l M ≡ false
+unfolding cell
+cells-fail l M e h = by (inside l e) refl
+  where
+    by : (b : Bool) → inside l e ≡ b → entriesAllowed l M ≡ false
+    by true t = entries-fail l M (e / 5) (e % 5) (inside-row l e t) (inside-column l e t) (rw t at h)
+    by false t = absurd (not-suc-le-zero (rw t at h))

@@ -1,0 +1,69 @@
+// Determinants: the sum over the first column of entry times its cofactor; a cofactor is a smaller determinant. The two functions call each other, and the size falls.
+ghost use mathlib.Core.Path.{_≡_};
+ghost use Prim.Native.Nat.{_-_, _<_, _≤_};
+ghost use Rattle.matrix.specs.Determinant.{det, minor};
+ghost use Rattle.matrix.specs.Determinant.{skip as rowLeft};
+ghost use Rattle.matrix.specs.Block.{view, block, cell};
+use super::blocks::BYTES;
+use super::blocks::Block;
+use super::blocks::STRIDE;
+use super::blocks::entry;
+use super::blocks::inside;
+use field::add;
+use field::mul;
+
+// Row i of what is left when row r is struck out.
+fn skip(r: usize, i: usize) -> usize
+    requires { ⌜ i < 5 ⌝ }
+    ensures { λ x. ⌜ x ≡ rowLeft r i ⌝ }
+{
+    if i < r { i } else { i + 1 }
+}
+
+// Byte e of the block of m without row r and without the first column.
+fn minor_entry(n: usize, m: Block, r: usize, e: usize) -> u8
+    requires { ⌜ (0 < n) × ((n ≤ 5) × (e < 25)) ⌝ }
+    ensures { λ x. ⌜ x ≡ cell (n - 1) (minor (view m) r) e ⌝ }
+{
+    if inside(n - 1, e) {
+        entry(m, skip(r, e / STRIDE), e % STRIDE + 1)
+    } else {
+        0
+    }
+}
+
+// The n by n matrix m without row r and without the first column.
+fn minor_of(n: usize, m: Block, r: usize) -> Block
+    requires { ⌜ (0 < n) × (n ≤ 5) ⌝ }
+    ensures { λ x. ⌜ x ≡ block (n - 1) (minor (view m) r) ⌝ }
+{
+    let mut out = [0; BYTES];
+    for e in 0..BYTES {
+        out[e] = minor_entry(n, m, r, e);
+    }
+    out
+}
+
+// The cofactor of row r's entry in the first column: the determinant without that row and column.
+fn cofactor(n: usize, m: Block, r: usize) -> u8
+    requires { ⌜ (0 < n) × (n ≤ 5) ⌝ }
+    ensures { λ d. ⌜ d ≡ det (n - 1) (minor (view m) r) ⌝ }
+{
+    let rest = minor_of(n, m, r);
+    determinant(n - 1, rest)
+}
+
+// The determinant of the n by n matrix m.
+pub fn determinant(n: usize, m: Block) -> u8
+    requires { ⌜ n ≤ 5 ⌝ }
+    ensures { λ d. ⌜ d ≡ det n (view m) ⌝ }
+{
+    if n == 0 {
+        return 1;
+    }
+    let mut sum: u8 = 0;
+    for r in 0..n {
+        sum = add(sum, mul(entry(m, r, 0), cofactor(n, m, r)));
+    }
+    sum
+}

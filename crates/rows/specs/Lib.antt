@@ -1,0 +1,8 @@
+pub mod LowChosen
+pub mod Plus
+pub mod Combine
+pub mod PlusRows
+pub mod Tile
+pub mod Zero
+pub mod WrittenEnd
+pub mod Unique

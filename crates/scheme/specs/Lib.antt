@@ -1,0 +1,14 @@
+pub mod Streams
+pub mod Maps
+pub mod Parts
+pub mod Composition
+pub mod Entries
+pub mod Key
+pub mod Verdict
+pub mod Linear
+pub mod Oil
+pub mod Regroup
+pub mod Coefficients
+pub mod Errors
+pub mod Single
+pub mod OwnMatrix

@@ -1,0 +1,11 @@
+pub mod RowsJoin
+pub mod Table
+pub mod Gains
+pub mod Entries
+pub mod Turns
+pub mod Unpacked
+pub mod Coefficients
+pub mod RingRows
+pub mod PowerBlocks
+pub mod PowerRows
+pub mod Unique

@@ -1,0 +1,36 @@
+-- No second outcome meets a contract of this crate: every lent buffer is fixed by what went in.
+-- Rests on rows' Plus, on Filled and on Unpacked.
+use mathlib.Core.Path.{_≡_, refl}
+use mathlib.Core.List.{List}
+use Prim.Native.Nat.{ℕ, _*_}
+use native.Mathlib.Omega.{arith}
+use Rattle.sets.specs.declared.Set.{Set}
+use Rattle.matrix.specs.RingElements.{powerS}
+use Rattle.scheme.specs.Streams.{T12}
+use Rattle.scheme.specs.Regroup.{powerTimes}
+use Rattle.rows.specs.Plus.{Plus, plus-unique}
+use Rattle.tables.specs.Table.{Filled, filled-unique}
+use Rattle.tables.specs.Gains.{blocksRow, productRow}
+use Rattle.tables.specs.Unpacked.{Unpacked, unpacked-unique, listOf}
+
+pub unique-add-block-row : (d stream : List ℕ) (at number l r count : ℕ) {t u : List ℕ} → Plus d at (count * l) (blocksRow l stream number r) t
+    → Plus d at (count * l) (blocksRow l stream number r) u → t ≡ u
+unique-add-block-row d stream at number l r count = plus-unique
+
+pub unique-add-product-row : (d stream src : List ℕ) (at n number l r count first : ℕ) {t u : List ℕ} → Plus d at n (productRow l stream number r count src n first) t
+    → Plus d at n (productRow l stream number r count src n first) u → t ≡ u
+unique-add-product-row d stream src at n number l r count first = plus-unique
+
+pub unique-unpack-all : (d stream : List ℕ) (n : ℕ) {t u : List ℕ} → Unpacked stream n d t → Unpacked stream n d u → t ≡ u
+unique-unpack-all d stream n = unpacked-unique
+
+pub unique-powers-of-s : (d : List ℕ) (l : ℕ) {t u : List ℕ} → Filled l l l 1 (λ p k. powerS l p) d t → Filled l l l 1 (λ p k. powerS l p) d u → t ≡ u
+unique-powers-of-s d l p q = let width : l ≡ 1 * l = omega arith in filled-unique width p q
+
+pub unique-private-table : (d private : List ℕ) (set : Set) {t u : List ℕ} → Filled (set .l) (set .o * set .l) (set .v) (set .o) (T12 set private) d t
+    → Filled (set .l) (set .o * set .l) (set .v) (set .o) (T12 set private) d u → t ≡ u
+unique-private-table d private set = filled-unique refl
+
+pub unique-power-table : (d list : List ℕ) (l n : ℕ) {t u : List ℕ} → Filled l (l * l) n l (λ k b. powerTimes l b (listOf l list k)) d t
+    → Filled l (l * l) n l (λ k b. powerTimes l b (listOf l list k)) d u → t ≡ u
+unique-power-table d list l n = filled-unique refl

@@ -1,0 +1,77 @@
+// Tables of bytes that key generation, the verdict and signing share: the powers of S, the private matrix T12, the powers of S times a list of matrices,
+// and rows of products of a stream's blocks with such a table. A table with rows of w bytes holds block (j, k) at rows j·l .. and columns k·l .. .
+mod powers;
+mod private;
+
+pub use powers::power_table;
+pub use powers::powers_of_s;
+pub use private::private_table;
+ghost use mathlib.Core.Path.{_≡_};
+ghost use Prim.Native.Nat.{ℕ, _+_, _*_, _^_, _<_, _≤_};
+ghost use lib.ListN.{length};
+ghost use Rattle.rows.specs.Plus.{Plus};
+ghost use Rattle.tables.specs.Gains.{rowStart, blocksRow, productRow};
+ghost use Rattle.tables.specs.Unpacked.{Unpacked};
+
+// The number of the first element of row r of a stream's block.
+fn row_start(l: usize, number: usize, r: usize) -> usize
+    requires { ⌜ (r < l) × ((number + 1) * (l * l) < 2 ^ 64) ⌝ }
+    ensures { λ e. ⌜ e ≡ rowStart l number r ⌝ }
+{
+    number * (l * l) + r * l
+}
+
+// dst[at..] gains row r of count blocks of a packed stream from block number on, side by side.
+pub fn add_block_row(
+    dst: &mut [u8],
+    at: usize,
+    stream: &[u8],
+    number: usize,
+    l: usize,
+    r: usize,
+    count: usize,
+)
+    requires { ⌜ (at + count * l ≤ length (now dst)) × (r < l) × ((number + count) * (l * l) ≤ 2 * length (now stream)) ⌝ }
+    ensures { λ _. ⌜ Plus (now (dst .entry)) at (count * l) (blocksRow l (now (stream .entry)) number r) (now (dst .exit)) ⌝ }
+{
+    let mut k = 0;
+    while k < count {
+        let from = row_start(l, number + k, r);
+        rows::add_elements(dst, at + k * l, stream, from, l);
+        k += 1;
+    }
+}
+
+// dst[at..at + n] gains row r of the sum over k < count of block number + k of the stream times block row first + k of the table src, in rows of n bytes.
+pub fn add_product_row(
+    dst: &mut [u8],
+    at: usize,
+    n: usize,
+    stream: &[u8],
+    number: usize,
+    l: usize,
+    r: usize,
+    count: usize,
+    src: &[u8],
+    first: usize,
+)
+    requires { ⌜ (at + n ≤ length (now dst)) × (r < l) × ((number + count) * (l * l) ≤ 2 * length (now stream)) × ((first + count) * l * n ≤ length (now src)) × (0 < n) ⌝ }
+    ensures { λ _. ⌜ Plus (now (dst .entry)) at n (productRow l (now (stream .entry)) number r count (now (src .entry)) n first) (now (dst .exit)) ⌝ }
+{
+    let mut k = 0;
+    while k < count {
+        let scalars = row_start(l, number + k, r);
+        let row = (first + k) * l;
+        rows::add_rows(dst, at, n, stream, scalars, l, src, row);
+        k += 1;
+    }
+}
+
+// dst becomes elements 0, .. , n - 1 of a packed stream, one to a byte, and zeros behind them.
+pub fn unpack_all(dst: &mut [u8], stream: &[u8], n: usize)
+    requires { ⌜ (n ≤ length (now dst)) × (n ≤ 2 * length (now stream)) ⌝ }
+    ensures { λ _. ⌜ Unpacked (now (stream .entry)) n (now (dst .entry)) (now (dst .exit)) ⌝ }
+{
+    rows::clear(dst);
+    rows::add_elements(dst, 0, stream, 0, n);
+}
