@@ -1,0 +1,49 @@
+-- `terms::read_block` meets its contract. The invariant: the first e bytes are those of the block. Rests on matrix's Filling.
+use mathlib.Core.Path.{refl}
+use Prim.Native.Nat.{_-_}
+use Rattle.matrix.specs.Filling.{Filling, filling-none, filling-cell, filling-end}
+use Rattle.scheme.specs.Streams.{blockOf}
+use borrow.Author.Needs.{needs}
+use Rattle.terms.proofs.blocks.read_block.Statement.{statement}
+use Rattle.terms.proofs.blocks.read_block.Tie as tie
+
+abbrev Inv-loop : tie.InvT-loop
+Inv-loop stream l number out₀ e₀ out e = Filling l (blockOf l stream number) out e
+
+abbrev μ-loop : tie.MeasureT-loop
+μ-loop stream l number out₀ e₀ out e = 25 - e
+
+loop-holds : tie.Need-loop-holds Inv-loop μ-loop
+loop-holds c = filling-none _ refl
+
+read-cell-requires : tie.Need-read-cell-requires Inv-loop μ-loop
+read-cell-requires c κs = search needs
+
+array-write-out : tie.Need-array-write-out Inv-loop μ-loop
+array-write-out c = search needs
+
+add-e : tie.Need-add-e Inv-loop μ-loop
+add-e c = search needs
+
+loop-less : tie.Need-loop-less Inv-loop μ-loop
+loop-less c = search needs
+
+loop-again : tie.Need-loop-again Inv-loop μ-loop
+loop-again c = filling-cell (c .before .before .loop .inv) (c .before .loop-test .taken) (c .read-cell .ensures)
+
+returns : tie.Need-returns Inv-loop μ-loop
+returns c = filling-end (c .before .loop .inv) (c .loop-test .left)
+
+pub read-block-spec : {M : Type 1} → statement M
+read-block-spec =
+    tie.close
+    (tie.spec
+    Inv-loop
+    μ-loop
+    loop-holds
+    read-cell-requires
+    array-write-out
+    add-e
+    loop-less
+    loop-again
+    returns)

@@ -1,0 +1,79 @@
+-- `terms::all_invertible` meets its contract. The invariant: the first b blocks pass; the first that does not decides.
+use mathlib.Core.Path.{ap}
+use Prim.Native.Nat.{_-_, _*_, _<_}
+use Rattle.sets.specs.Sets.{terms}
+use Rattle.terms.specs.Places.{few-blocks, size-allowed, block-within}
+use Rattle.terms.specs.Refusal.{Passing, passing-none, passing-next, passing-end, passing-stops}
+use borrow.Author.Needs.{needs}
+use native.Mathlib.Omega.{arith}
+use Rattle.terms.proofs.refusal.all_invertible.Statement.{statement}
+use Rattle.terms.proofs.refusal.all_invertible.Tie as tie
+
+abbrev Inv-loop : tie.InvT-loop
+Inv-loop abq l count b₀ b = Passing l abq count b
+
+abbrev μ-loop : tie.MeasureT-loop
+μ-loop abq l count b₀ b = count - b
+
+all-terms-requires : tie.Need-all-terms-requires Inv-loop μ-loop
+all-terms-requires c κs = search needs
+
+mul-count : tie.Need-mul-count Inv-loop μ-loop
+mul-count c = omega (arith, few-blocks (c .before .before .pre .0))
+
+loop-holds : tie.Need-loop-holds Inv-loop μ-loop
+loop-holds c = passing-none
+
+invertible-at-requires : tie.Need-invertible-at-requires Inv-loop μ-loop
+invertible-at-requires c κs =
+    let s = c .before .before .before .before in
+    let within : c .before .loop .b < 2 * (s .args .set .o * terms (s .args .set)) = omega arith in
+    let fits = block-within (s .pre .0) (s .args .abq .now) (s .pre .1) within in
+    (size-allowed (s .pre .0 .limits), omega arith)
+
+enum-told : tie.Need-enum-told Inv-loop μ-loop
+enum-told c = search needs
+
+enum-told-2 : tie.Need-enum-told-2 Inv-loop μ-loop
+enum-told-2 c = search needs
+
+returns : tie.Need-returns Inv-loop μ-loop
+returns c =
+    let turn = c .before .before .before in
+    let s = turn .before .before .before .before in
+    let within : turn .before .loop .b < 2 * (s .args .set .o * terms (s .args .set)) = omega arith in
+    passing-stops (s .args .set) (s .args .abq .now) (turn .before .loop .b) within (c .before .before .invertible-at .ensures .answer) (c .enum-told2 .given .1)
+
+add-b : tie.Need-add-b Inv-loop μ-loop
+add-b c = omega (arith, few-blocks (c .before .before .before .before .before .before .before .pre .0))
+
+loop-less : tie.Need-loop-less Inv-loop μ-loop
+loop-less c = search needs
+
+loop-again : tie.Need-loop-again Inv-loop μ-loop
+loop-again c =
+    let turn = c .before .before .before in
+    passing-next (turn .before .loop .inv) (turn .loop-test .taken) (c .before .before .invertible-at .ensures .answer) (c .enum-told .given .1)
+
+returns-2 : tie.Need-returns-2 Inv-loop μ-loop
+returns-2 c =
+    let s = c .before .before .before .before in
+    passing-end (s .args .set) (s .args .abq .now) (ap (λ x. 2 * x) (c .before .before .all-terms .ensures)) (c .before .loop .inv) (c .loop-test .left)
+
+pub all-invertible-spec : {M : Type 1} → statement M
+all-invertible-spec =
+    tie.close
+    (tie.spec
+    Inv-loop
+    μ-loop
+    all-terms-requires
+    mul-count
+    loop-holds
+    invertible-at-requires
+    enum-told
+    enum-told-2
+    returns
+    add-b
+    loop-less
+    loop-again
+    returns-2)

@@ -1,0 +1,12 @@
+pub mod Every
+pub mod Places
+pub mod Terms
+pub mod Reading
+pub mod Refusal
+pub mod Coefficient
+pub mod Gathering
+pub mod Adding
+pub mod FromSums
+pub mod Gain
+pub mod Accumulate
+pub mod Unique
