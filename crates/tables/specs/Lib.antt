@@ -4,7 +4,6 @@ pub mod Gains
 pub mod Entries
 pub mod Turns
 pub mod Unpacked
-pub mod Coefficients
 pub mod RingRows
 pub mod PowerBlocks
 pub mod PowerRows

@@ -6,27 +6,10 @@ ghost use lib.ListN.{length};
 ghost use Rattle.rows.specs.Plus.{Plus};
 ghost use Rattle.sets.specs.Bounds.{Bounds};
 ghost use Rattle.sets.specs.Sets.{privateBytes};
-ghost use Rattle.matrix.specs.RingElements.{coefficient};
-ghost use Rattle.scheme.specs.Streams.{groupOf, T12};
+ghost use Rattle.scheme.specs.Streams.{T12};
 ghost use Rattle.tables.specs.Table.{Filled};
 ghost use Rattle.tables.specs.RingRows.{Powers, ringRow, ringsRow};
 use sets::Set;
-
-// Algorithm 1's coefficient p of a group of l elements: the last, if it is 0, becomes 16 - a0, or 15 if a0 is 0.
-fn coefficient_at(stream: &[u8], l: usize, group: usize, p: usize) -> u8
-    requires { ⌜ (p < l) × ((group + 1) * l ≤ 2 * length (now stream)) ⌝ }
-    ensures { λ r. ⌜ r ≡ coefficient l (groupOf l (now (stream .entry)) group) p ⌝ }
-{
-    let own = packing::element(stream, group * l + p);
-    if p != l - 1 {
-        return own;
-    }
-    if own != 0 {
-        return own;
-    }
-    let first = packing::element(stream, group * l);
-    if first == 0 { 15 } else { 16 - first }
-}
 
 // t[at..at + l] gains row x of the element of F16[S] that a group of the stream gives: the sum over p of its coefficient p times row x of S to the p.
 fn private_part(t: &mut [u8], at: usize, stream: &[u8], l: usize, group: usize, sp: &[u8], x: usize)
@@ -35,7 +18,7 @@ fn private_part(t: &mut [u8], at: usize, stream: &[u8], l: usize, group: usize, 
 {
     let mut p = 0;
     while p < l {
-        let scalar = coefficient_at(stream, l, group, p);
+        let scalar = terms::coefficient_at(stream, l, group, p);
         rows::add_scaled(t, at, sp, (p * l + x) * l, l, scalar);
         p += 1;
     }
