@@ -1,0 +1,45 @@
+-- `keys::generate` meets its contract: by the number of the lowest rule, either the whole key is written or nothing.
+-- Rests on packing's `writes-by`, sets' `keygen-fits` and on what `write_key` ensures.
+use mathlib.Core.Path.{sym, ap, _∙_}
+use mathlib.Core.Logic.{⊎-elim, ⊎-map}
+use lib.ListN.{length}
+use Rattle.ground.specs.Answers.{answerOf}
+use Rattle.packing.specs.Refusals.{writes-by}
+use Rattle.sets.specs.Bounds.{bounds}
+use Rattle.sets.specs.Fits.{keygen-fits}
+use Rattle.scheme.specs.Verdict.{keygenRefusals}
+use borrow.Author.Needs.{needs}
+use Rattle.keys.proofs.generate.Statement.{statement}
+use Rattle.keys.proofs.generate.Tie as tie
+
+keygen-refusal-requires : tie.Need-keygen-refusal-requires
+keygen-refusal-requires c κs = search needs
+
+write-key-requires : tie.Need-write-key-requires
+write-key-requires c κs =
+    let args = c .before .before .before .before .before .before .args in
+    let fits = keygen-fits (args .set) (length (args .public .now)) (length (args .private .now)) (length (args .key .now)) (sym (c .before .before .keygen-refusal .ensures) ∙ c .before .if1 .taken) in
+    (bounds (args .set) (fits .allowed), (fits .public, fits .private, fits .output))
+
+answer-of-requires : tie.Need-answer-of-requires
+answer-of-requires c κs = search needs
+
+same-length : tie.Need-same-length
+same-length c = ⊎-elim (λ w. ap length (w .5) ∙ w .2 .kept .0) (λ w. ap length (w .1)) (c .before .if1 .came)
+
+returns : tie.Need-returns
+unfolding keygenRefusals
+returns c =
+    let number = c .before .before .keygen-refusal .ensures in
+    writes-by (c .answer-of .ensures ∙ ap answerOf number)
+    (⊎-map (λ w. (sym number ∙ w .0 .taken, w .5 ∙ w .2 .ensures)) (λ w. (λ z. w .0 .left (number ∙ z), w .1)) (c .before .if1 .came))
+
+pub generate-spec : {M : Type 1} → statement M
+generate-spec =
+    tie.close
+    (tie.spec
+    keygen-refusal-requires
+    write-key-requires
+    answer-of-requires
+    same-length
+    returns)

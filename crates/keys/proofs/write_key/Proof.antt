@@ -1,0 +1,77 @@
+-- `keys::write_key` meets its contract: with the table of T12 filled, every element is written, and the spare half is zero. Rests on Elements.
+-- Nothing is asked of what the tables hold before.
+use mathlib.Core.Path.{_∙_}
+use Rattle.packing.specs.Packing.{Bytes}
+use Rattle.keys.specs.Elements.{key-whole}
+use borrow.Author.Needs.{needs}
+use native.Mathlib.Omega.{arith}
+use Rattle.keys.proofs.write_key.Statement.{statement}
+use Rattle.keys.proofs.write_key.Tie as tie
+
+slice-aggregate-powers-of-s : tie.Need-slice-aggregate-powers-of-s
+slice-aggregate-powers-of-s c = search needs
+
+powers-of-s-requires : tie.Need-powers-of-s-requires
+powers-of-s-requires c κs =
+    let begin = c .before .before .before .before in
+    omega (arith, begin .pre .0 .limits, begin .pre .0 .products .lll)
+
+slice-aggregate-private-table : tie.Need-slice-aggregate-private-table
+slice-aggregate-private-table c = search needs
+
+slice-aggregate-private-table-2 : tie.Need-slice-aggregate-private-table-2
+slice-aggregate-private-table-2 c = search needs
+
+private-table-requires : tie.Need-private-table-requires
+private-table-requires c κs =
+    let begin = c .before .before .before .before .before .before .before .before in
+    let powers-of-s = c .before .before .before .powers-of-s in
+    (begin .pre .0, ((begin .pre .1 .1, omega (arith, begin .pre .0 .products .voll), omega (arith, powers-of-s .ensures .long, begin .pre .0 .products .lll)), powers-of-s .ensures .holds))
+
+slice-aggregate-write-elements : tie.Need-slice-aggregate-write-elements
+slice-aggregate-write-elements c = search needs
+
+slice-aggregate-write-elements-2 : tie.Need-slice-aggregate-write-elements-2
+slice-aggregate-write-elements-2 c = search needs
+
+slice-aggregate-write-elements-3 : tie.Need-slice-aggregate-write-elements-3
+slice-aggregate-write-elements-3 c = search needs
+
+write-elements-requires : tie.Need-write-elements-requires
+write-elements-requires c κs =
+    let begin = c .before .before .before .before .before .before .before .before .before .before .before .before .before .before in
+    (begin .pre .0, ((begin .pre .1 .0, begin .pre .1 .2, omega (arith, c .before .before .before .before .before .private-table .ensures .long, begin .pre .0 .products .voll)), (omega (arith, begin .pre .0 .products .voll), omega (arith, begin .pre .0 .products .ooll))))
+
+clear-spare-requires : tie.Need-clear-spare-requires
+clear-spare-requires c κs =
+    let begin = c .before .before .before .before .before .before .before .before .before .before .before .before .before .before .before .before .before .before .before .before in
+    (begin .pre .0, c .before .before .before .before .before .write-elements .kept .0 ∙ begin .pre .1 .2)
+
+same-length : tie.Need-same-length
+same-length c = c .before .before .clear-spare .kept .0 ∙ c .before .before .before .before .before .before .before .before .write-elements .kept .0
+
+returns : tie.Need-returns
+returns c =
+    let begin = c .before .before .before .before .before .before .before .before .before .before .before .before .before .before .before .before .before .before .before .before .before .before .before in
+    let clear-spare = c .before .before .clear-spare in
+    let write-elements = c .before .before .before .before .before .before .before .before .write-elements in
+    let bytes : Bytes (clear-spare .last .0) = record { below = λ k. omega (arith, c .slice-known3 .given k) } in
+    key-whole (begin .args .set) (begin .args .public .now) (begin .args .private .now) (write-elements .ensures) (c .before .before .before .before .before .before .before .before .before .before .before .before .before .before .private-table .ensures .holds)
+    (clear-spare .ensures) bytes (clear-spare .kept .0 ∙ write-elements .kept .0 ∙ begin .pre .1 .2)
+
+pub write-key-spec : {M : Type 1} → statement M
+write-key-spec =
+    tie.close
+    (tie.spec
+    slice-aggregate-powers-of-s
+    powers-of-s-requires
+    slice-aggregate-private-table
+    slice-aggregate-private-table-2
+    private-table-requires
+    slice-aggregate-write-elements
+    slice-aggregate-write-elements-2
+    slice-aggregate-write-elements-3
+    write-elements-requires
+    clear-spare-requires
+    same-length
+    returns)

@@ -1,0 +1,100 @@
+-- Where key generation reads and writes: block numbers of the public stream, rows of the tables, elements of the key. Every index lies within its buffer
+-- and no product wraps. Rests on sets' bounds and ground's places.
+use mathlib.Core.Path.{_≡_}
+use Prim.Native.Nat.{ℕ, _+_, _*_, _/_, _%_, _<_, _≤_}
+use native.Mathlib.Nat.{mul-le-mul-right, mul-pos, div-lt-iff-lt-mul, mod-lt}
+use native.Mathlib.Omega.{arith}
+use lib.Arith.{digits-lt}
+use Rattle.ground.specs.Place.{row-fits}
+use Rattle.sets.specs.declared.Set.{Set}
+use Rattle.sets.specs.Sets.{publicCount, publicBytes, keyCount, keyBytes}
+use Rattle.sets.specs.Bounds.{Bounds}
+
+-- ---- the public stream
+
+-- n is a block's number, and count blocks from it on stand in the public stream
+pub record Starts (set : Set) (number count n : ℕ) : Type 0 where
+  pub is : n ≡ number
+  pub within : (n + count) * (set .l * set .l) ≤ publicCount set
+
+pub starts : (set : Set) {number count n : ℕ} → n ≡ number → n + count ≤ set .o * (set .v * set .v + 2 * set .v * set .o) → Starts set number count n
+unfolding publicCount
+starts set e h = record { is = e; within = mul-le-mul-right (set .l * set .l) h }
+
+-- row (i, j) of o by a rows of b blocks
+pub record NumberTurn (o a b i j : ℕ) : Type 0 where
+  pub row : i * a + j + 1 ≤ o * a
+  pub number : (i * a + j) * b + b ≤ o * a * b
+
+pub number-turn : {o a i j : ℕ} (b : ℕ) → i < o → j < a → NumberTurn o a b i j
+number-turn b hi hj = let row = digits-lt hi hj in record { row = omega (arith, row); number = row-fits b row }
+
+-- the public stream holds all blocks
+pub public-within : (set : Set) {n : ℕ} → n ≡ publicBytes set → publicCount set ≤ 2 * n
+unfolding publicBytes
+public-within set e = omega arith
+
+-- ---- the tables
+
+-- row y of a table with n block rows, in rows of o·l bytes
+pub record RowTurn (set : Set) (n y : ℕ) : Type 0 where
+  pub positive : 0 < set .l
+  pub wide : 0 < set .o * set .l
+  pub row : y * (set .o * set .l) + set .o * set .l ≤ n * set .l * (set .o * set .l)
+  pub block : y / set .l < n
+  pub entry : y % set .l < set .l
+
+pub row-turn : {set : Set} (n : ℕ) {y : ℕ} → Bounds set → y < n * set .l → RowTurn set n y
+row-turn {set} n {y} b h =
+    let positive : 0 < set .l = omega (arith, b .limits .l-least) in
+    let some : 0 < set .o = omega (arith, b .limits .o-least) in
+    record {
+      positive = positive;
+      wide = mul-pos some positive;
+      row = row-fits (set .o * set .l) h;
+      block = div-lt-iff-lt-mul positive .1 h;
+      entry = mod-lt y positive;
+    }
+
+-- column y of a table with n rows of w
+pub column-within : {n w y m : ℕ} → y < w → n * w ≤ m → (x : ℕ) → x < n → y + x * w < m
+column-within hy fits x hx = omega (arith, digits-lt hx hy)
+
+-- ---- the key
+
+-- row q of the o·o·l rows of l elements that equation i has in the key, and where it stands in the table
+pub record PutTurn (set : Set) (i q : ℕ) : Type 0 where
+  pub positive : 0 < set .l
+  pub some : 0 < set .o
+  pub number : i * (set .o * set .o * set .l) + q < set .o * (set .o * set .o * set .l)
+  pub from : (i * (set .o * set .o * set .l) + q) * set .l + set .l ≤ set .o * (set .o * set .o * set .l) * set .l
+  pub row : q / set .l / set .o * set .l + q % set .l < set .o * set .l
+  pub block : q / set .l % set .o * set .l + set .l ≤ set .o * set .l
+  pub place : (q / set .l / set .o * set .l + q % set .l) * (set .o * set .l) + set .o * set .l ≤ set .o * set .l * (set .o * set .l)
+
+pub put-turn : {set : Set} {i q : ℕ} → Bounds set → i < set .o → q < set .o * set .o * set .l → PutTurn set i q
+put-turn {set} {i} {q} b hi hq =
+    let positive : 0 < set .l = omega (arith, b .limits .l-least) in
+    let some : 0 < set .o = omega (arith, b .limits .o-least) in
+    let number : i * (set .o * set .o * set .l) + q < set .o * (set .o * set .o * set .l) = digits-lt hi hq in
+    let block : q / set .l / set .o < set .o = div-lt-iff-lt-mul some .1 (div-lt-iff-lt-mul positive .1 hq) in
+    let row : q / set .l / set .o * set .l + q % set .l < set .o * set .l = digits-lt block (mod-lt q positive) in
+    record {
+      positive = positive;
+      some = some;
+      number = number;
+      from = row-fits (set .l) number;
+      row = row;
+      block = row-fits (set .l) (mod-lt (q / set .l) some);
+      place = row-fits (set .o * set .l) row;
+    }
+
+-- the key holds all elements
+pub key-within : {set : Set} {n : ℕ} → Bounds set → n ≡ keyBytes set → set .o * (set .o * set .o * set .l) * set .l ≤ 2 * n
+unfolding keyBytes
+key-within b e = omega (arith, b .counts .key)
+
+-- a spare half stands in the key's last byte
+pub spare-within : (set : Set) {n m : ℕ} → n ≡ keyCount set → n % 2 ≡ 1 → m ≡ keyBytes set → n / 2 < m
+unfolding keyBytes
+spare-within set e odd long = omega arith
