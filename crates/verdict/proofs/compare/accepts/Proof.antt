@@ -1,0 +1,59 @@
+-- `verdict::compare::accepts` meets its contract: the two tables, and the comparison of every equation. Rests on Compare and Places.
+use mathlib.Core.Path.{_∙_}
+use Rattle.rows.specs.Zero.{length-zeros}
+use Rattle.verdict.specs.Places.{table-room, sums-room}
+use Rattle.verdict.specs.Compare.{meets-accepted}
+use borrow.Author.Needs.{needs}
+use native.Mathlib.Omega.{arith}
+use Rattle.verdict.proofs.compare.accepts.Statement.{statement}
+use Rattle.verdict.proofs.compare.accepts.Tie as tie
+
+slice-aggregate-signature-table : tie.Need-slice-aggregate-signature-table
+slice-aggregate-signature-table c = search needs
+
+signature-table-requires : tie.Need-signature-table-requires
+signature-table-requires c κs = let s = c .before .before .before .before .before .before in (s .pre .0 .0, s .pre .1 .2, omega (arith, table-room (s .pre .0 .0), length-zeros 5440))
+
+slice-aggregate-all-sums : tie.Need-slice-aggregate-all-sums
+slice-aggregate-all-sums c = search needs
+
+slice-aggregate-all-sums-2 : tie.Need-slice-aggregate-all-sums-2
+slice-aggregate-all-sums-2 c = search needs
+
+all-sums-requires : tie.Need-all-sums-requires
+all-sums-requires c κs =
+    let s = c .before .before .before .before .before .before .before .before .before .before in (
+      s .pre .0 .0,
+      (
+        (omega (arith, sums-room (s .pre .0 .0), length-zeros 2560), omega (arith, table-room (s .pre .0 .0), length-zeros 5440, c .before .before .before .signature-table .kept .0)),
+        (s .pre .0 .1, s .pre .1 .1),
+      ),
+    )
+
+slice-aggregate-all-equal : tie.Need-slice-aggregate-all-equal
+slice-aggregate-all-equal c = search needs
+
+all-equal-requires : tie.Need-all-equal-requires
+all-equal-requires c κs =
+    let s = c .before .before .before .before .before .before .before .before .before .before .before .before .before in
+    ((s .pre .0 .0, omega (arith, sums-room (s .pre .0 .0), length-zeros 2560, c .before .before .all-sums .kept .0)), (s .pre .0 .2, s .pre .0 .3, s .pre .1 .0))
+
+returns : tie.Need-returns
+returns c =
+    let s = c .before .before .before .before .before .before .before .before .before .before .before .before .before .before in
+    let a = s .args in
+    c .all-equal .ensures
+    ∙ meets-accepted (s .pre .0 .0) (a .public .now) (a .abq .now) (a .key .now) (a .signature .now) (a .target .now) _ _ (c .before .before .before .before .before .before .before .signature-table .ensures) (c .before .before .before .all-sums .ensures)
+
+pub accepts-spec : {M : Type 1} → statement M
+accepts-spec =
+    tie.close
+    (tie.spec
+    slice-aggregate-signature-table
+    signature-table-requires
+    slice-aggregate-all-sums
+    slice-aggregate-all-sums-2
+    all-sums-requires
+    slice-aggregate-all-equal
+    all-equal-requires
+    returns)

@@ -1,0 +1,35 @@
+-- `verdict::map::map_rows` meets its contract: a vinegar row or an oil row. Rests on MapRows.
+use Rattle.verdict.specs.MapRows.{oil-row}
+use borrow.Author.Needs.{needs}
+use native.Mathlib.Omega.{arith}
+use Rattle.verdict.proofs.map.map_rows.Statement.{statement}
+use Rattle.verdict.proofs.map.map_rows.Tie as tie
+
+vinegar-rows-requires : tie.Need-vinegar-rows-requires
+vinegar-rows-requires c κs = let s = c .before .before .before .before .before .before in ((s .pre .0 .0, s .pre .0 .1, c .before .if1 .taken), (s .pre .1 .0, s .pre .1 .1))
+
+same-length : tie.Need-same-length
+same-length c = search needs
+
+returns : tie.Need-returns
+returns c = c .before .before .vinegar-rows .ensures
+
+oil-rows-requires : tie.Need-oil-rows-requires
+oil-rows-requires c κs = let s = c .before .before .before .before .before .before in ((s .pre .0 .0, s .pre .0 .1, omega (arith, c .before .if1 .left, s .pre .0 .2)), (s .pre .1 .0, s .pre .1 .1))
+
+same-length-2 : tie.Need-same-length-2
+same-length-2 c = search needs
+
+returns-2 : tie.Need-returns-2
+returns-2 c = let a = c .before .before .before .before .before .before .before .before .before .args in oil-row (a .set) (a .public .now) (a .key .now) (a .w .now) (a .i) (a .j) (omega (arith, c .before .before .before .before .if1 .left)) (c .before .before .oil-rows .ensures)
+
+pub map-rows-spec : {M : Type 1} → statement M
+map-rows-spec =
+    tie.close
+    (tie.spec
+    vinegar-rows-requires
+    same-length
+    returns
+    oil-rows-requires
+    same-length-2
+    returns-2)

@@ -1,0 +1,51 @@
+-- `verdict::map::vinegar_rows` meets its contract: P11 and P12 of row j are a row of P. Rests on MapRows and Places.
+use Prim.Native.Nat.{_+_, _≤_}
+use Rattle.tables.specs.Table.{cleared}
+use Rattle.verdict.specs.Places.{p11-fits, p12-fits, public-within, publicBlocks}
+use Rattle.verdict.specs.MapRows.{vinegar-holds}
+use borrow.Author.Needs.{needs}
+use native.Mathlib.Omega.{arith}
+use Rattle.verdict.proofs.map.vinegar_rows.Statement.{statement}
+use Rattle.verdict.proofs.map.vinegar_rows.Tie as tie
+
+clear-requires : tie.Need-clear-requires
+clear-requires c κs = search needs
+
+p11-number-requires : tie.Need-p11-number-requires
+p11-number-requires c κs = c .before .before .before .before .before .before .before .before .pre .0
+
+p12-number-requires : tie.Need-p12-number-requires
+p12-number-requires c κs = c .before .before .before .before .before .before .before .before .before .pre .0
+
+add-rows-requires : tie.Need-add-rows-requires
+add-rows-requires c κs =
+    let s = c .before .before .before .before .before .before .before .before .before .before .before in
+    let left : c .before .before .p11-number .result + s .args .set .v ≤ publicBlocks (s .args .set) = omega (arith, c .before .before .p11-number .ensures, p11-fits (s .args .set) (s .pre .0 .1) (s .pre .0 .2)) in
+    let right : c .before .p12-number .result + s .args .set .o ≤ publicBlocks (s .args .set) = omega (arith, c .before .p12-number .ensures, p12-fits (s .args .set) (s .pre .0 .1) (s .pre .0 .2)) in (
+      s .pre .0 .0,
+      (
+        (omega (arith, s .pre .1 .0 .0, c .before .before .before .before .before .clear .kept .0), s .pre .1 .0 .1),
+        (public-within (s .pre .0 .0) (s .args .public .now) (s .pre .1 .1 .0) left, public-within (s .pre .0 .0) (s .args .public .now) (s .pre .1 .1 .0) right),
+      ),
+    )
+
+same-length : tie.Need-same-length
+same-length c = search needs
+
+returns : tie.Need-returns
+returns c =
+    let s = c .before .before .before .before .before .before .before .before .before .before .before .before .before .before in
+    let a = s .args in
+    vinegar-holds (a .set) (a .public .now) (a .key .now) (a .w .now) (a .i) (a .j) (s .pre .0 .2) (c .before .before .before .before .before .p11-number .ensures) (c .before .before .before .before .p12-number .ensures)
+    (cleared (a .y .now) (c .before .before .before .before .before .before .before .before .clear .ensures)) (c .before .before .add-rows .ensures)
+
+pub vinegar-rows-spec : {M : Type 1} → statement M
+vinegar-rows-spec =
+    tie.close
+    (tie.spec
+    clear-requires
+    p11-number-requires
+    p12-number-requires
+    add-rows-requires
+    same-length
+    returns)

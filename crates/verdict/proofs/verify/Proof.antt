@@ -1,0 +1,68 @@
+-- `verdict::verify` meets its contract: the lengths' refusal, then 21 as Algorithm 2's helper gives it, then the comparison. Rests on Promise.
+use mathlib.Core.Path.{sym, _∙_}
+use lib.ListN.{length}
+use Rattle.sets.specs.Bounds.{bounds}
+use Rattle.sets.specs.Fits.{verdict-fits}
+use Rattle.scheme.specs.Verdict.{accepted}
+use Rattle.verdict.specs.Promise.{refused-lengths, refused-21, compared, all-invertible-met}
+use borrow.Author.Needs.{needs}
+use native.Mathlib.Omega.{arith}
+use Rattle.verdict.proofs.verify.Statement.{statement}
+use Rattle.verdict.proofs.verify.Tie as tie
+
+verdict-refusal-requires : tie.Need-verdict-refusal-requires
+verdict-refusal-requires c κs = search needs
+
+returns : tie.Need-returns
+returns c = let a = c .before .before .before .before .before .before .before .args in refused-lengths (a .set) (a .public .now) (a .abq .now) (a .target .now) (a .key .now) (a .signature .now) (accepted (a .set) (a .public .now) (a .abq .now) (a .key .now) (a .signature .now) (a .target .now)) (c .before .verdict-refusal .ensures) (c .if1 .taken)
+
+all-invertible-requires : tie.Need-all-invertible-requires
+all-invertible-requires c κs =
+    let a = c .before .before .before .before .before .before .before .args in
+    let f = verdict-fits (a .set) (length (a .public .now)) (length (a .abq .now)) (length (a .target .now)) (length (a .key .now)) (length (a .signature .now)) (sym (c .before .verdict-refusal .ensures) ∙ c .if1 .left) in
+    (bounds (a .set) (f .allowed), f .abq)
+
+enum-told : tie.Need-enum-told
+enum-told c = search needs
+
+enum-told-2 : tie.Need-enum-told-2
+enum-told-2 c = search needs
+
+number-requires : tie.Need-number-requires
+number-requires c κs = search needs
+
+returns-2 : tie.Need-returns-2
+returns-2 c =
+    let a = c .before .before .before .before .before .before .before .before .before .before .before .args in
+    refused-21 (a .set) (a .public .now) (a .abq .now) (a .target .now) (a .key .now) (a .signature .now) (accepted (a .set) (a .public .now) (a .abq .now) (a .key .now) (a .signature .now) (a .target .now)) (c .before .before .before .before .before .verdict-refusal .ensures) (c .before .before .before .before .if1 .left) (c .before .before .before .all-invertible .ensures) (c .before .enum-told2 .given .1) (c .number .ensures)
+
+accepts-requires : tie.Need-accepts-requires
+accepts-requires c κs =
+    let a = c .before .before .before .before .before .before .before .before .before .before .args in
+    let f = verdict-fits (a .set) (length (a .public .now)) (length (a .abq .now)) (length (a .target .now)) (length (a .key .now)) (length (a .signature .now)) (sym (c .before .before .before .before .verdict-refusal .ensures) ∙ c .before .before .before .if1 .left) in
+    ((bounds (a .set) (f .allowed), f .public, f .abq, all-invertible-met (a .set) (a .abq .now) (c .before .before .all-invertible .ensures) (c .enum-told .given .1)), (f .target, f .key, f .signature))
+
+returns-3 : tie.Need-returns-3
+returns-3 c =
+    let a = c .before .before .before .before .before .before .before .before .before .before .before .before .args in
+    compared (a .set) (a .public .now) (a .abq .now) (a .target .now) (a .key .now) (a .signature .now) (accepted (a .set) (a .public .now) (a .abq .now) (a .key .now) (a .signature .now) (a .target .now)) (c .before .before .before .before .before .before .verdict-refusal .ensures) (c .before .before .before .before .before .if1 .left) (c .before .before .before .before .all-invertible .ensures) (c .before .before .enum-told .given .1) (sym (c .if2 .taken) ∙ c .before .accepts .ensures)
+
+returns-4 : tie.Need-returns-4
+returns-4 c =
+    let a = c .before .before .before .before .before .before .before .before .before .before .before .before .args in
+    compared (a .set) (a .public .now) (a .abq .now) (a .target .now) (a .key .now) (a .signature .now) (accepted (a .set) (a .public .now) (a .abq .now) (a .key .now) (a .signature .now) (a .target .now)) (c .before .before .before .before .before .before .verdict-refusal .ensures) (c .before .before .before .before .before .if1 .left) (c .before .before .before .before .all-invertible .ensures) (c .before .before .enum-told .given .1) (sym (c .if2 .left) ∙ c .before .accepts .ensures)
+
+pub verify-spec : {M : Type 1} → statement M
+verify-spec =
+    tie.close
+    (tie.spec
+    verdict-refusal-requires
+    returns
+    all-invertible-requires
+    enum-told
+    enum-told-2
+    number-requires
+    returns-2
+    accepts-requires
+    returns-3
+    returns-4)
