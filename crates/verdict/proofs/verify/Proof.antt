@@ -6,7 +6,6 @@ use Rattle.sets.specs.Fits.{verdict-fits}
 use Rattle.scheme.specs.Verdict.{accepted}
 use Rattle.verdict.specs.Promise.{refused-lengths, refused-21, compared, all-invertible-met}
 use borrow.Author.Needs.{needs}
-use native.Mathlib.Omega.{arith}
 use Rattle.verdict.proofs.verify.Statement.{statement}
 use Rattle.verdict.proofs.verify.Tie as tie
 

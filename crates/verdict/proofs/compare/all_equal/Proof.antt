@@ -1,10 +1,9 @@
 -- `verdict::compare::all_equal` meets its contract. The invariant: the first i equations are equal. Rests on Compare and Places.
 use mathlib.Core.Path.{_∙_}
-use Prim.Native.Nat.{_-_, _≤_}
+use Prim.Native.Nat.{_-_, _<_, _≤_}
 use borrow.Author.Tests.{not-true, not-false}
 use Rattle.verdict.specs.Places.{target-within}
 use Rattle.verdict.specs.Compare.{Testing, testing-none, testing-next, testing-end, testing-stops, equationEqual, equation-equal, all-meet}
-use borrow.Author.Needs.{needs}
 use native.Mathlib.Omega.{arith}
 use Rattle.verdict.proofs.compare.all_equal.Statement.{statement}
 use Rattle.verdict.proofs.compare.all_equal.Tie as tie
@@ -15,21 +14,25 @@ Inv-loop set abq sums target l o i₀ i = Testing (equationEqual set abq sums ta
 abbrev μ-loop : tie.MeasureT-loop
 μ-loop set abq sums target l o i₀ i = o - i
 
+-- the equation of this turn is one of the set's
+inside : (c : tie.In-loop Inv-loop μ-loop) → c .before .loop .i < c .before .before .before .before .before .args .set .o
+inside c = omega (arith, c .loop-test .taken)
+
 loop-holds : tie.Need-loop-holds Inv-loop μ-loop
 loop-holds c = testing-none
 
 equation-block-requires : tie.Need-equation-block-requires Inv-loop μ-loop
-equation-block-requires c κs = let s = c .before .before .before .before .before in ((s .pre .0 .0, c .loop-test .taken), ((s .pre .1 .0, s .pre .1 .1), s .pre .0 .1))
+equation-block-requires c κs = let s = c .before .before .before .before .before in ((s .pre .0 .0, inside c), ((s .pre .1 .0, s .pre .1 .1), s .pre .0 .1))
 
 equals-target-requires : tie.Need-equals-target-requires Inv-loop μ-loop
-equals-target-requires c κs = let s = c .before .before .before .before .before .before in (omega (arith, s .pre .0 .0 .limits .l-most), target-within (s .pre .0 .0) (s .args .target .now) (s .pre .1 .2) (c .before .loop-test .taken))
+equals-target-requires c κs = let s = c .before .before .before .before .before .before in (omega (arith, s .pre .0 .0 .limits .l-most), target-within (s .pre .0 .0) (s .args .target .now) (s .pre .1 .2) (inside (c .before)))
 
 returns : tie.Need-returns Inv-loop μ-loop
 returns c =
     let s = c .before .before .before .before .before .before .before .before in
     let a = s .args in
     let small : a .set .l ≤ 5 = omega (arith, s .pre .0 .0 .limits .l-most) in
-    testing-stops (equationEqual (a .set) (a .abq .now) (a .sums .now) (a .target .now)) (c .before .before .before .loop-test .taken)
+    testing-stops (equationEqual (a .set) (a .abq .now) (a .sums .now) (a .target .now)) (inside (c .before .before .before))
     (equation-equal (a .set) (a .abq .now) (a .sums .now) (a .target .now) (c .before .before .before .before .loop .i) small (c .before .before .equation-block .ensures) (c .before .equals-target .ensures) (not-true _ (c .if1 .taken)))
     ∙ all-meet (a .set) (a .abq .now) (a .sums .now) (a .target .now)
 

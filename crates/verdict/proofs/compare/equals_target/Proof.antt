@@ -2,7 +2,6 @@
 use Prim.Native.Nat.{_-_}
 use borrow.Author.Tests.{not-true, not-false}
 use Rattle.verdict.specs.Compare.{Testing, testing-none, testing-next, testing-end, testing-stops, rowEqual, row-equal}
-use borrow.Author.Needs.{needs}
 use native.Mathlib.Omega.{arith}
 use Rattle.verdict.proofs.compare.equals_target.Statement.{statement}
 use Rattle.verdict.proofs.compare.equals_target.Tie as tie

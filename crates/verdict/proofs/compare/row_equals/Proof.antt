@@ -5,7 +5,6 @@ use lib.ListN.{length}
 use Rattle.ground.specs.Place.{row-fits}
 use Rattle.terms.specs.Reading.{element-within}
 use Rattle.verdict.specs.Compare.{Testing, testing-none, testing-next, testing-end, testing-stops, equalAt, entry-equal, entry-differs}
-use borrow.Author.Needs.{needs}
 use native.Mathlib.Omega.{arith}
 use Rattle.verdict.proofs.compare.row_equals.Statement.{statement}
 use Rattle.verdict.proofs.compare.row_equals.Tie as tie

@@ -1,7 +1,6 @@
 -- `verdict::places::p12_number` meets its contract: the block row lies within its stream, which has few blocks.
 use lib.Arith.{digits-lt}
 use Rattle.verdict.specs.Places.{p12-fits, few-public}
-use borrow.Author.Needs.{needs}
 use native.Mathlib.Omega.{arith}
 use Rattle.verdict.proofs.places.p12_number.Statement.{statement}
 use Rattle.verdict.proofs.places.p12_number.Tie as tie
