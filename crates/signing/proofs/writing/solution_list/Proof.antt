@@ -1,0 +1,79 @@
+-- `signing::solution_list` meets its contract. T12 as a table, the vinegar unpacked, plus T12 times the oil, then the oil (`solution-from`).
+use Rattle.signing.specs.Emitting.{vinegar-within, solution-from}
+use borrow.Author.Needs.{needs}
+use native.Mathlib.Omega.{arith}
+use Rattle.signing.proofs.writing.solution_list.Statement.{statement}
+use Rattle.signing.proofs.writing.solution_list.Tie as tie
+
+slice-aggregate-powers-of-s : tie.Need-slice-aggregate-powers-of-s
+slice-aggregate-powers-of-s c = search needs
+
+powers-of-s-requires : tie.Need-powers-of-s-requires
+powers-of-s-requires c κs = search needs
+
+slice-aggregate-private-table : tie.Need-slice-aggregate-private-table
+slice-aggregate-private-table c = search needs
+
+slice-aggregate-private-table-2 : tie.Need-slice-aggregate-private-table-2
+slice-aggregate-private-table-2 c = search needs
+
+private-table-requires : tie.Need-private-table-requires
+private-table-requires c κs =
+    let s = c .before .before .before .before .before .before .before .before .before in
+    let b = s .pre .0 in
+    (b, ((s .pre .1 .0 .0, omega (arith, b .products .voll), omega (arith, b .products .lll, c .before .before .before .powers-of-s .kept .0)), c .before .before .before .powers-of-s .ensures .holds))
+
+vinegar-count-requires : tie.Need-vinegar-count-requires
+vinegar-count-requires c κs = search needs
+
+unknowns-requires : tie.Need-unknowns-requires
+unknowns-requires c κs = search needs
+
+unpack-all-requires : tie.Need-unpack-all-requires
+unpack-all-requires c κs =
+    let s = c .before .before .before .before .before .before .before .before .before .before .before .before .before .before in
+    let n = c .before .before .vinegar-count .ensures in
+    (omega (arith, n, s .pre .0 .counts .vinegar, s .pre .0 .counts .signature, s .pre .1 .1 .0 .0), omega (arith, n, vinegar-within (s .args .set) (s .pre .1 .0 .1)))
+
+slice-aggregate-add-oil : tie.Need-slice-aggregate-add-oil
+slice-aggregate-add-oil c = search needs
+
+add-oil-requires : tie.Need-add-oil-requires
+add-oil-requires c κs =
+    let s = c .before .before .before .before .before .before .before .before .before .before .before .before .before .before .before .before .before .before .before in
+    let b = s .pre .0 in
+    (b, (omega (arith, b .counts .signature, s .pre .1 .1 .0 .0, c .before .before .before .before .unpack-all .kept .0), (omega (arith, b .products .voll, c .before .before .before .before .before .before .before .before .before .private-table .kept .0), omega (arith, b .counts .unknowns, s .pre .1 .1 .0 .1))))
+
+add-scaled-requires : tie.Need-add-scaled-requires
+add-scaled-requires c κs =
+    let s = c .before .before .before .before .before .before .before .before .before .before .before .before .before .before .before .before .before .before .before .before .before .before .before in
+    let b = s .pre .0 in
+    let n = c .before .before .before .before .before .before .before .before .before .before .before .vinegar-count .ensures in
+    let m = c .before .before .before .before .before .before .before .before .before .before .unknowns .ensures in
+    (omega (arith, n, m, b .counts .vinegar, b .counts .unknowns, b .counts .signature, s .pre .1 .1 .0 .0, c .before .before .before .before .before .before .before .before .unpack-all .kept .0, c .before .before .before .add-oil .kept .0), omega (arith, m, s .pre .1 .1 .0 .1))
+
+same-length : tie.Need-same-length
+same-length c = search needs
+
+returns : tie.Need-returns
+returns c =
+    solution-from (c .before .before .before .before .before .before .before .before .before .before .before .before .before .before .before .before .before .before .before .before .before .before .before .before .before .before .args .oil .now) (c .before .before .before .before .before .before .before .before .before .before .before .before .before .before .before .before .private-table .ensures .holds) (c .before .before .before .before .before .before .before .before .before .before .before .before .before .before .vinegar-count .ensures) (c .before .before .before .before .before .before .before .before .before .before .before .before .before .unknowns .ensures) (c .before .before .before .before .before .before .before .before .before .before .before .before .before .before .before .before .before .before .before .before .before .before .before .before .before .before .pre .1 .1 .1) (c .before .before .before .before .before .before .before .before .before .before .before .unpack-all .ensures)
+    (c .before .before .before .before .before .before .add-oil .ensures) (c .before .before .add-scaled .ensures)
+
+pub solution-list-spec : {M : Type 1} → statement M
+solution-list-spec =
+    tie.close
+    (tie.spec
+    slice-aggregate-powers-of-s
+    powers-of-s-requires
+    slice-aggregate-private-table
+    slice-aggregate-private-table-2
+    private-table-requires
+    vinegar-count-requires
+    unknowns-requires
+    unpack-all-requires
+    slice-aggregate-add-oil
+    add-oil-requires
+    add-scaled-requires
+    same-length
+    returns)

@@ -1,0 +1,8 @@
+pub mod Signs
+pub mod Signature
+pub mod Writing
+pub mod Emitting
+pub mod Solving
+pub mod Refusals
+pub mod Outcomes
+pub mod Unique

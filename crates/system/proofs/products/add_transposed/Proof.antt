@@ -1,0 +1,74 @@
+-- `system::products::add_transposed` meets its contract. The invariant: the first y rows have gained. Rests on Products.
+use mathlib.Core.Path.{refl}
+use Prim.Native.Nat.{_+_, _*_, _-_, _<_, _≤_}
+use native.Mathlib.Nat.{mul-le-mul-right}
+use lib.Arith.{digits-lt}
+use Rattle.ground.specs.Place.{row-fits}
+use Rattle.system.specs.Products.{Adding, adding-none, adding-next, adding-end, transposedGain, rowsOf, transposed-row}
+use borrow.Author.Needs.{needs}
+use native.Mathlib.Omega.{arith}
+use Rattle.system.proofs.products.add_transposed.Statement.{statement}
+use Rattle.system.proofs.products.add_transposed.Tie as tie
+
+abbrev Inv-loop : tie.InvT-loop
+Inv-loop dst₀ at n scalars place m count src y₀ dst y = Adding dst₀ at m n (transposedGain scalars place m count (rowsOf n src)) y dst
+
+abbrev μ-loop : tie.MeasureT-loop
+μ-loop dst₀ at n scalars place m count src y₀ dst y = m - y
+
+loop-holds : tie.Need-loop-holds Inv-loop μ-loop
+loop-holds c =
+    adding-none
+
+mul-add-columns : tie.Need-mul-add-columns Inv-loop μ-loop
+mul-add-columns c =
+    omega (arith, row-fits (c .before .before .before .before .before .before .args .n) (c .before .loop-test .taken))
+
+add-add-columns : tie.Need-add-add-columns Inv-loop μ-loop
+add-add-columns c =
+    omega (arith, row-fits (c .before .before .before .before .before .before .args .n) (c .before .loop-test .taken))
+
+add-add-columns-2 : tie.Need-add-add-columns-2 Inv-loop μ-loop
+add-add-columns-2 c =
+    omega (arith, mul-le-mul-right (c .before .before .before .before .before .before .args .m) (c .before .before .before .before .before .before .pre .1 .1 .1))
+
+add-columns-requires : tie.Need-add-columns-requires Inv-loop μ-loop
+add-columns-requires c κs =
+    (omega (arith, row-fits (c .before .before .before .before .before .before .args .n) (c .before .loop-test .taken), c .before .before .loop .inv .so-far .long), λ x h. omega (arith, digits-lt h (c .before .loop-test .taken)))
+
+add-y : tie.Need-add-y Inv-loop μ-loop
+add-y c =
+    search needs
+
+loop-less : tie.Need-loop-less Inv-loop μ-loop
+loop-less c =
+    search needs
+
+loop-again : tie.Need-loop-again Inv-loop μ-loop
+loop-again c =
+    adding-next (c .before .before .before .before .before .loop .inv) (c .before .before .before .before .loop-test .taken) (transposed-row (c .before .before .before .before .before .before .before .before .before .args .scalars .now) (c .before .before .before .before .before .before .before .before .before .args .place) (c .before .before .before .before .before .before .before .before .before .args .m) (c .before .before .before .before .before .before .before .before .before .args .count) (c .before .before .before .before .before .before .before .before .before .args .src .now) (c .before .before .before .before .before .loop .y) (c .before .before .add-columns .ensures))
+
+same-length : tie.Need-same-length Inv-loop μ-loop
+same-length c =
+    search needs
+
+returns : tie.Need-returns Inv-loop μ-loop
+returns c =
+    adding-end (c .before .loop .inv) (c .loop-test .left)
+
+pub add-transposed-spec : {M : Type 1} → statement M
+add-transposed-spec =
+    tie.close
+    (tie.spec
+    Inv-loop
+    μ-loop
+    loop-holds
+    mul-add-columns
+    add-add-columns
+    add-add-columns-2
+    add-columns-requires
+    add-y
+    loop-less
+    loop-again
+    same-length
+    returns)

@@ -1,0 +1,226 @@
+-- The rows of the system as the code adds them: term by term, then the last column; over the tables of the left sums, the right sums and the power sums.
+-- Rests on Sides, and on terms' equation from a table of power sums.
+use mathlib.Core.Path.{_≡_, refl, sym, ap, ap₂, _∙_}
+use mathlib.Core.List.{List}
+use Prim.Native.Nat.{ℕ, _+_, _*_, _/_, _%_, _<_, _≤_}
+use native.Mathlib.Nat.{mul-le-mul, mul-le-mul-right, le-mul-of-pos-right, div-lt-iff-lt-mul, mod-lt, zero-add as zero-plus}
+use native.Mathlib.Decide.{decLt}
+use native.Mathlib.Omega.{arith}
+use borrow.Author.Tests.{lt-ltb, le-ltb}
+use lib.Arith.{digits-lt, digits-div, digits-mod}
+use lib.Dec.{ltb}
+use lib.ListN.{length, getD}
+use Rattle.ground.specs.Pick.{pick}
+use Rattle.ground.specs.Place.{row-fits}
+use Rattle.algebra.specs.Sum.{sum}
+use Rattle.field.specs.Field.{add, mul}
+use Rattle.field.specs.Laws.{add-zero, one-mul}
+use Rattle.packing.specs.Packing.{element}
+use Rattle.rows.specs.Zero.{zeros, length-zeros}
+use Rattle.rows.specs.Plus.{Plus, plus-cong, plus-then}
+use Rattle.rows.specs.PlusRows.{PlusRows, rows-cong}
+use Rattle.rows.specs.Tile.{tile}
+use Rattle.sets.specs.declared.Set.{Set}
+use Rattle.sets.specs.Sets.{terms, targetCount, targetBytes}
+use Rattle.sets.specs.Bounds.{Bounds}
+use Rattle.matrix.specs.Matrix.{Matrix, mulM, transpose}
+use Rattle.matrix.specs.Same.{Same, same-refl, same-mul, mulM-lt, sumM-lt}
+use Rattle.matrix.specs.Block.{view, block, holds}
+use Rattle.scheme.specs.Streams.{A, B}
+use Rattle.scheme.specs.Maps.{sumM, matrixIndex}
+use Rattle.scheme.specs.Regroup.{q1Of, q2Of}
+use Rattle.terms.specs.Places.{Term, index-lt}
+use Rattle.terms.specs.Terms.{equationFrom, termFrom}
+use Rattle.tables.specs.Table.{cleared}
+use Rattle.system.specs.Products.{HasRows, zero-rows-from}
+use Rattle.system.specs.Sides.{Sides, sideOf, combinedFrom, cellGain, rowGain}
+
+module _ (set : Set) (abq left right sp : List ℕ) where
+  -- A·L·Q2 of oil index k
+  abbrev pub leftSide : (i alpha k : ℕ) → Matrix
+  leftSide i alpha =
+      sideOf (set .l) (A set abq i alpha) (q1Of set abq i alpha) left (set .o * set .l) (matrixIndex set i alpha * set .l) 1 0
+      (combinedFrom (set .l) (q2Of set abq i alpha) sp (set .l) 0 0 1 0)
+
+  -- Q1·R·B of oil index k
+  abbrev pub rightSide : (i alpha k : ℕ) → Matrix
+  rightSide i alpha =
+      sideOf (set .l) (combinedFrom (set .l) (q1Of set abq i alpha) sp (set .l) 0 0 1 0) (q2Of set abq i alpha) right (set .l * set .l) (matrixIndex set i alpha * set .o) 0 1
+      (B set abq i alpha)
+
+  -- what term alpha adds to the coefficient of unknown (k; y, b) in entry (r, c), with q = k·l + y
+  unfoldable pub termCell : (i alpha r c q b : ℕ) → ℕ
+  termCell i alpha r c q b =
+      add (mul (leftSide i alpha (q / set .l) r (q % set .l)) (B set abq i alpha b c)) (mul (rightSide i alpha (q / set .l) (q % set .l) c) (A set abq i alpha r b))
+
+  -- row e = r·l + c of equation i, column z: the unknowns, and nothing in the last column
+  unfoldable pub termRow : (i alpha e z : ℕ) → ℕ
+  termRow i alpha e z = pick (ltb z (set .o * set .l * set .l)) (termCell i alpha (e / set .l) (e % set .l) (z / set .l) (z % set .l)) 0
+
+  -- the sum over all terms
+  abbrev pub equationRow : (i e z : ℕ) → ℕ
+  equationRow i e z = sum 0 add (terms set) (λ alpha. termRow i alpha e z)
+
+-- the last column
+unfoldable pub targetRow : (set : Set) (abq sums target : List ℕ) (i e z : ℕ) → ℕ
+targetRow set abq sums target i e z =
+    pick (ltb z (set .o * set .l * set .l)) 0 (add (equationFrom set abq sums i (e / set .l) (e % set .l)) (element target (i * (set .l * set .l) + e)))
+
+-- row e of equation i
+abbrev pub systemRow : (set : Set) (abq target left right sums sp : List ℕ) (i e z : ℕ) → ℕ
+systemRow set abq target left right sums sp i e z = add (equationRow set abq left right sp i e z) (targetRow set abq sums target i e z)
+
+-- the system, row by row; the buffer keeps its length, and is zero behind the system
+pub record Built (set : Set) (abq target left right sums sp before after : List ℕ) : Type 0 where
+  pub long : length after ≡ length before
+  pub row : (i e z : ℕ) → i < set .o → e < set .l * set .l → z < set .o * set .l * set .l + 1
+      → getD after ((i * (set .l * set .l) + e) * (set .o * set .l * set .l + 1) + z) 0 ≡ systemRow set abq target left right sums sp i e z
+  pub beyond : (k : ℕ) → set .o * (set .l * set .l) * (set .o * set .l * set .l + 1) ≤ k → getD after k 0 ≡ 0
+
+-- ---- one term
+
+-- the rows made of the blocks are the term's
+pub term-rows : {set : Set} {i alpha : ℕ} → Term set i alpha → (abq left right sp : List ℕ) {lefts rights a b bt q1 q2 d t : List ℕ} {at index : ℕ} {g1 g2 : ℕ → ℕ}
+    → index ≡ matrixIndex set i alpha → g1 ≡ q1Of set abq i alpha → g2 ≡ q2Of set abq i alpha
+    → a ≡ block (set .l) (A set abq i alpha) → b ≡ block (set .l) (B set abq i alpha) → bt ≡ block (set .l) (transpose (view b))
+    → q1 ≡ block (set .l) (combinedFrom (set .l) g1 sp (set .l) 0 0 1 0) → q2 ≡ block (set .l) (combinedFrom (set .l) g2 sp (set .l) 0 0 1 0)
+    → Sides (set .l) (set .o) (sideOf (set .l) (view a) g1 left (set .o * set .l) (index * set .l) 1 0 (view q2)) lefts
+    → Sides (set .l) (set .o) (sideOf (set .l) (view q1) g2 right (set .l * set .l) (index * set .o) 0 1 (view b)) rights
+    → PlusRows d at (set .l * set .l) (set .o * set .l * set .l + 1) (rowGain (set .l) (set .o) lefts rights a bt) t
+    → PlusRows d at (set .l * set .l) (set .o * set .l * set .l + 1) (termRow set abq left right sp i alpha) t
+unfolding rowGain termRow cellGain termCell sideOf view transpose
+term-rows {set} {i} {alpha} term abq left right sp {lefts} {rights} {a} {b} {bt} {q1} {q2} {index = index} {g1 = g1} {g2 = g2} index-is g1-is g2-is a-is b-is bt-is q1-is q2-is hl hr p =
+    rows-cong (λ e z he hz. by e z he hz) p
+  where
+    l : ℕ
+    l = set .l
+
+    positive : 0 < set .l
+    positive = omega (arith, term .bounds .limits .l-least)
+
+    small : set .l ≤ 5
+    small = omega (arith, term .bounds .limits .l-most)
+
+    cells : (e z : ℕ) → e < set .l * set .l → z < set .o * set .l * set .l
+        → cellGain (set .l) lefts rights a bt (e / set .l) (e % set .l) (z / set .l) (z % set .l)
+        ≡ termCell set abq left right sp i alpha (e / set .l) (e % set .l) (z / set .l) (z % set .l)
+    cells e z he hz =
+        let r = div-lt-iff-lt-mul positive .1 he in
+        let c = mod-lt e positive in
+        let b′ = mod-lt z positive in
+        let q = div-lt-iff-lt-mul positive .1 hz in
+        let k = div-lt-iff-lt-mul positive .1 q in
+        let y = mod-lt (z / set .l) positive in
+        ap₂ add
+        (ap₂ mul
+        (hl .at (z / set .l / set .l) (e / set .l) (z / set .l % set .l) k r y
+        ∙ same-mul (holds small a-is) (same-mul same-refl (holds small q2-is)) .at (e / set .l) (z / set .l % set .l) r y
+        ∙ rw (index-is, g1-is, g2-is))
+        (holds small bt-is .at (e % set .l) (z % set .l) c b′ ∙ holds small b-is .at (z % set .l) (e % set .l) b′ c))
+        (ap₂ mul
+        (hr .at (z / set .l / set .l) (z / set .l % set .l) (e % set .l) k y c
+        ∙ same-mul (holds small q1-is) (same-mul same-refl (holds small b-is)) .at (z / set .l % set .l) (e % set .l) y c
+        ∙ rw (index-is, g1-is, g2-is))
+        (holds small a-is .at (e / set .l) (z % set .l) r b′))
+
+    by : (e z : ℕ) → e < set .l * set .l → z < set .o * set .l * set .l + 1
+        → rowGain (set .l) (set .o) lefts rights a bt e z ≡ termRow set abq left right sp i alpha e z
+    by e z he hz =
+        elim (decLt z (set .o * set .l * set .l)) [
+          | yes h ↦ ap (λ x. pick (ltb z (set .o * set .l * set .l)) x 0) (cells e z he h)
+          | no h ↦ let past : set .o * set .l * set .l ≤ z = omega arith in rw (le-ltb z (set .o * set .l * set .l) past)
+        ]
+
+-- ---- the last column
+
+widen-last : (n : ℕ) {d t : List ℕ} {at place : ℕ} {f : ℕ → ℕ} → place ≡ at + n → Plus d place 1 f t → Plus d at (n + 1) (λ c. pick (ltb c n) 0 (f 0)) t
+widen-last n {d} {t} {at} {place} {f} e p = record {
+  long = p .long;
+  inside = λ k h.
+      elim (decLt k n) [
+        | yes b ↦ p .low (at + k) (omega arith) ∙ sym (rw (lt-ltb k n b) (add-zero _))
+        | no b ↦
+            let past : n ≤ k = omega arith in
+            let here : at + k ≡ place + 0 = omega arith in
+            ap (λ i. getD t i 0) here ∙ p .inside 0 (omega arith) ∙ ap (λ i. add (getD d i 0) (f 0)) (sym here) ∙ rw (le-ltb k n past)
+      ];
+  low = λ k h. p .low k (omega arith);
+  high = λ k h. p .high k (omega arith);
+}
+
+-- the last byte of row e as the code adds it, from the block of the vinegar part
+unfoldable pub targetAdded : (l n total : ℕ) (known target : List ℕ) (i e z : ℕ) → ℕ
+targetAdded l n total known target i e z = pick (ltb z n) 0 (add (mul 1 (getD known (e / l * 5 + e % l + 0) 0)) (element target (i * total + e + 0)))
+
+pub target-step : (l n total : ℕ) (known target : List ℕ) (i e : ℕ) {d t u : List ℕ} {at place : ℕ} → place ≡ at + n
+    → Plus d place 1 (λ c. mul 1 (getD known (e / l * 5 + e % l + c) 0)) t → Plus t place 1 (λ c. element target (i * total + e + c)) u
+    → Plus d at (n + 1) (targetAdded l n total known target i e) u
+unfolding targetAdded
+target-step l n total known target i e place-is p q = widen-last n place-is (plus-then p q)
+
+pub target-rows : {set : Set} → Bounds set → (abq sums target : List ℕ) (i : ℕ) {known d t : List ℕ} {at : ℕ} → known ≡ block (set .l) (equationFrom set abq sums i)
+    → PlusRows d at (set .l * set .l) (set .o * set .l * set .l + 1) (targetAdded (set .l) (set .o * set .l * set .l) (set .l * set .l) known target i) t
+    → PlusRows d at (set .l * set .l) (set .o * set .l * set .l + 1) (targetRow set abq sums target i) t
+unfolding targetAdded targetRow view termFrom
+target-rows {set} b abq sums target i {known} is p = rows-cong (λ e z he hz. ap (λ x. pick (ltb z (set .o * set .l * set .l)) 0 x) (value e he)) p
+  where
+    positive : 0 < set .l
+    positive = omega (arith, b .limits .l-least)
+
+    small : set .l ≤ 5
+    small = omega (arith, b .limits .l-most)
+
+    value : (e : ℕ) → e < set .l * set .l → add (mul 1 (getD known (e / set .l * 5 + e % set .l + 0) 0)) (element target (i * (set .l * set .l) + e + 0))
+        ≡ add (equationFrom set abq sums i (e / set .l) (e % set .l)) (element target (i * (set .l * set .l) + e))
+    value e he =
+        let here : e / set .l * 5 + e % set .l + 0 ≡ e / set .l * 5 + e % set .l = omega arith in
+        let there : i * (set .l * set .l) + e + 0 ≡ i * (set .l * set .l) + e = omega arith in
+        ap₂ add
+        (ap (λ j. mul 1 (getD known j 0)) here
+        ∙ ap (mul 1) (holds small is .at (e / set .l) (e % set .l) (div-lt-iff-lt-mul positive .1 he) (mod-lt e positive))
+        ∙ one-mul _ (sumM-lt (terms set) _ (e / set .l) (e % set .l) (λ alpha h. mulM-lt (set .l) _ _ (e / set .l) (e % set .l))))
+        (ap (element target) there)
+
+pub target-within : {set : Set} {n : ℕ} → Bounds set → n ≡ targetBytes set → set .o * (set .l * set .l) ≤ 2 * n
+unfolding targetBytes
+target-within b e = omega (arith, b .counts .target)
+
+-- ---- all equations
+
+pub built : (set : Set) (abq target left right sums sp before : List ℕ) {d after : List ℕ} → d ≡ zeros (length before)
+    → PlusRows d 0 (set .o * (set .l * set .l)) (set .o * set .l * set .l + 1)
+    (λ y. systemRow set abq target left right sums sp (y / (set .l * set .l)) (y % (set .l * set .l))) after
+    → Built set abq target left right sums sp before after
+built set abq target left right sums sp before {after = after} z p = record {
+  long = p .long ∙ ap length z ∙ length-zeros (length before);
+  row = λ i e c hi he hc.
+      let all : HasRows (set .o * (set .l * set .l)) (set .o * set .l * set .l + 1)
+      (λ y. systemRow set abq target left right sums sp (y / (set .l * set .l)) (y % (set .l * set .l))) after = zero-rows-from before z p in
+      let here = all .at (i * (set .l * set .l) + e) c (digits-lt hi he) hc in
+      here ∙ ap₂ (λ j x. systemRow set abq target left right sums sp j x c) (digits-div i he) (digits-mod i he);
+  beyond = λ k h. p .high k (omega arith) ∙ cleared before z k;
+}
+
+-- ---- places
+
+pub record TermPlaces (set : Set) (index : ℕ) : Type 0 where
+  pub left : (k x : ℕ) → k < set .o → x < set .l → (index * set .l + k * 0 + x * 1 + 1) * set .l * (set .o * set .l) ≤ set .o * (set .l * set .l) * (set .o * set .l)
+  pub left-column : (k x : ℕ) → k < set .o → x < set .l → (k * 1 + x * 0 + 1) * set .l ≤ set .o * set .l
+  pub right : (k x : ℕ) → k < set .o → x < set .l → (index * set .o + k * 1 + x * 0 + 1) * set .l * (set .l * set .l) ≤ set .o * (set .o * set .l) * (set .l * set .l)
+  pub right-column : (k x : ℕ) → k < set .o → x < set .l → (k * 0 + x * 1 + 1) * set .l ≤ set .l * set .l
+  pub powers : (x : ℕ) → x < set .l → (0 + x * 1 + 1) * set .l * set .l ≤ set .l * set .l * set .l
+  pub power-column : (x : ℕ) → x < set .l → (0 + x * 0 + 1) * set .l ≤ set .l
+
+pub term-places : (set : Set) (index : ℕ) → index < set .o → TermPlaces set index
+term-places set index h = record {
+  left = λ k x hk hx.
+      let row : index * set .l + x + 1 ≤ set .o * set .l = omega (arith, digits-lt h hx) in
+      omega (arith, mul-le-mul-right (set .l * (set .o * set .l)) row);
+  left-column = λ k x hk hx. omega (arith, row-fits (set .l) hk);
+  right = λ k x hk hx.
+      let row : index * set .o + k + 1 ≤ set .o * set .o = omega (arith, digits-lt h hk) in
+      omega (arith, mul-le-mul-right (set .l * (set .l * set .l)) row);
+  right-column = λ k x hk hx. omega (arith, row-fits (set .l) hx);
+  powers = λ x hx. omega (arith, mul-le-mul-right (set .l) (row-fits (set .l) hx));
+  power-column = λ x hx. omega arith;
+}

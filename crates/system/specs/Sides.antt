@@ -1,0 +1,148 @@
+-- One term of an equation: the blocks A·L·Q2 and Q1·R·B for each oil index, and what its rows of the system gain from them.
+-- Rests on matrix's blocks, rows' PlusRows and Products.
+use mathlib.Core.Path.{_≡_, refl, sym, ap, ap₂, _∙_}
+use mathlib.Core.List.{List}
+use Prim.Native.Nat.{ℕ, _+_, _*_, _/_, _%_, _<_, _≤_}
+use native.Mathlib.Nat.{le-refl, mul-pos, mul-le-mul, mul-le-mul-right, le-mul-of-pos-right, div-lt-iff-lt-mul, mod-lt, zero-add as zero-plus}
+use native.Mathlib.Decide.{decLt}
+use native.Mathlib.Omega.{arith}
+use borrow.Author.Tests.{lt-ltb, le-ltb}
+use lib.Arith.{digits-lt, digits-div, digits-mod}
+use lib.Dec.{ltb}
+use lib.ListN.{length, getD}
+use Rattle.ground.specs.Pick.{pick}
+use Rattle.ground.specs.Place.{row-fits}
+use Rattle.field.specs.Field.{add, mul}
+use Rattle.field.specs.Laws.{add-zero, one-mul}
+use Rattle.rows.specs.Zero.{zeros}
+use Rattle.rows.specs.Plus.{Plus, plus-cong, plus-then}
+use Rattle.rows.specs.PlusRows.{PlusRows, rows-plus}
+use Rattle.rows.specs.Tile.{tile}
+use Rattle.matrix.specs.Matrix.{Matrix, mulM, scaleM, addM}
+use Rattle.matrix.specs.Same.{Same, same-refl, same-trans, same-mul, mulM-lt, same-scale}
+use Rattle.matrix.specs.Block.{view, block, block-same, holds, cell, cell-at, getD-block}
+use Rattle.scheme.specs.Maps.{sumM}
+use Rattle.terms.specs.Reading.{cell-entry}
+use Rattle.terms.specs.Adding.{sum-step}
+use Rattle.system.specs.Products.{HasRows, zero-rows-from}
+
+-- ---- blocks of a table, combined by coefficients q
+
+unfoldable pub combinedFrom : (l : ℕ) (q : ℕ → ℕ) (table : List ℕ) (w row column down across : ℕ) → Matrix
+combinedFrom l q table w row column down across = sumM l (λ x. scaleM (q x) (tile l w table (row + x * down) (column + x * across)))
+
+-- a byte of a block of the table
+pub tile-cell-is : (l w : ℕ) (table : List ℕ) (j k e : ℕ) → e / 5 < l → e % 5 < l
+    → getD table ((j * l + e / 5) * w + (k * l + e % 5)) 0 ≡ cell l (tile l w table j k) e
+unfolding tile
+tile-cell-is l w table j k e hr hc = cell-entry l (tile l w table j k) e hr hc
+
+-- its place
+pub tile-within : (l w j k : ℕ) {r c n : ℕ} → (j + 1) * l * w ≤ n → (k + 1) * l ≤ w → r < l → c < l → (j * l + r) * w + (k * l + c) < n
+tile-within l w j k {r} {c} {n} fits column hr hc =
+    let inside : k * l + c < w = omega arith in
+    let row : j * l + r < (j + 1) * l = omega arith in
+    omega (arith, digits-lt row inside)
+
+-- numbers that a place is made of are at most the place's bound
+pub row-small : (x l w n : ℕ) → 0 < l → l ≤ w → (x + 1) * l * w ≤ n → x + 1 ≤ n
+row-small x l w n hl hw h =
+    let positive : 0 < w = omega arith in
+    omega (arith, le-mul-of-pos-right (x + 1) (mul-pos hl positive))
+
+-- one coefficient more
+pub combined-step : {l : ℕ} → l ≤ 5 → (q : ℕ → ℕ) (table : List ℕ) (w row column down across x : ℕ) {factor : ℕ} {sum part term more : List ℕ}
+    → sum ≡ block l (sumM x (λ x. scaleM (q x) (tile l w table (row + x * down) (column + x * across)))) → factor ≡ q x
+    → part ≡ block l (tile l w table (row + x * down) (column + x * across)) → term ≡ block l (scaleM factor (view part)) → more ≡ block l (addM (view sum) (view term))
+    → more ≡ block l (sumM (x + 1) (λ x. scaleM (q x) (tile l w table (row + x * down) (column + x * across))))
+combined-step {l} small q table w row column down across x {factor} {sum} {part} {term} {more} s f p t m =
+    let term-is : term ≡ block l (scaleM (q x) (tile l w table (row + x * down) (column + x * across))) =
+    t ∙ block-same (same-scale factor (holds small p)) ∙ ap (λ a. block l (scaleM a (tile l w table (row + x * down) (column + x * across)))) f in
+    sum-step small (λ x. scaleM (q x) (tile l w table (row + x * down) (column + x * across))) x s term-is m
+
+-- ---- first · (combined) · last, for each k
+
+unfoldable pub sideOf : (l : ℕ) (F : Matrix) (q : ℕ → ℕ) (table : List ℕ) (w row down across : ℕ) (L : Matrix) (k : ℕ) → Matrix
+sideOf l F q table w row down across L k = mulM l F (mulM l (combinedFrom l q table w (row + k * across) (k * down) down across) L)
+
+-- the blocks stand in 25 bytes each
+pub record Sides (l count : ℕ) (M : ℕ → Matrix) (t : List ℕ) : Type 0 where
+  pub at : (k r c : ℕ) → k < count → r < l → c < l → getD t (k * 25 + (r * 5 + c)) 0 ≡ M k r c
+
+-- byte z of block k, as it is added to a cleared table
+abbrev pub sideRow : (l : ℕ) (M : ℕ → Matrix) → ℕ → ℕ → ℕ
+sideRow l M k z = mul 1 (cell l (M k) z)
+
+pub side-row : {l : ℕ} → l ≤ 5 → (first last : List ℕ) (q : ℕ → ℕ) (table : List ℕ) (w row down across : ℕ) (k : ℕ) {d t middle right side : List ℕ} {at : ℕ}
+    → middle ≡ block l (combinedFrom l q table w (row + k * across) (k * down) down across) → right ≡ block l (mulM l (view middle) (view last))
+    → side ≡ block l (mulM l (view first) (view right))
+    → Plus d at 25 (λ c. mul 1 (getD side (0 + c) 0)) t → Plus d at 25 (sideRow l (sideOf l (view first) q table w row down across (view last)) k) t
+unfolding sideOf
+side-row {l} small first last q table w row down across k {side = side} m r s p =
+    let whole : side ≡ block l (mulM l (view first) (mulM l (combinedFrom l q table w (row + k * across) (k * down) down across) (view last))) =
+    s ∙ block-same (same-mul same-refl (same-trans (holds small r) (same-mul (holds small m) same-refl))) in
+    plus-cong (λ z h. ap (mul 1) (ap (λ i. getD side i 0) (zero-plus z) ∙ ap (λ b. getD b z 0) whole ∙ getD-block l _ z h)) p
+
+pub sides-filled : {l count : ℕ} → l ≤ 5 → (F : Matrix) (q : ℕ → ℕ) (table : List ℕ) (w row down across : ℕ) (L : Matrix) (before : List ℕ) {d t : List ℕ}
+    → d ≡ zeros (length before) → PlusRows d 0 count 25 (sideRow l (sideOf l F q table w row down across L)) t → Sides l count (sideOf l F q table w row down across L) t
+unfolding sideOf
+sides-filled {l} {count} small F q table w row down across L before z p = record {
+  at = λ k r c hk hr hc.
+      let all : HasRows count 25 (sideRow l (sideOf l F q table w row down across L)) _ = zero-rows-from before z p in
+      all .at k (r * 5 + c) hk (omega arith) ∙ ap (mul 1) (cell-at l _ r c small hr hc) ∙ one-mul _ (mulM-lt l F _ r c);
+}
+
+-- ---- what a row gains
+
+-- unknown (k; y, b) of the row of entry (r, c): with q = k·l + y
+unfoldable pub cellGain : (l : ℕ) (lefts rights a bt : List ℕ) (r c : ℕ) → ℕ → ℕ → ℕ
+cellGain l lefts rights a bt r c q b =
+    add (mul (getD lefts (q / l * 25 + (r * 5 + q % l)) 0) (getD bt (c * 5 + b) 0))
+    (mul (getD rights (q / l * 25 + (q % l * 5 + c)) 0) (getD a (r * 5 + b) 0))
+
+pub cell-row : (l : ℕ) (lefts rights a bt : List ℕ) (r c q : ℕ) {d t u : List ℕ} {at : ℕ}
+    → Plus d at l (λ b. mul (getD lefts (q / l * 25 + (r * 5 + q % l)) 0) (getD bt (c * 5 + b) 0)) t
+    → Plus t at l (λ b. mul (getD rights (q / l * 25 + (q % l * 5 + c)) 0) (getD a (r * 5 + b) 0)) u
+    → Plus d at l (cellGain l lefts rights a bt r c q) u
+unfolding cellGain
+cell-row l lefts rights a bt r c q p s = plus-then p s
+
+-- row e = r·l + c of an equation, column z: the unknowns, and nothing in the last column
+unfoldable pub rowGain : (l count : ℕ) (lefts rights a bt : List ℕ) → ℕ → ℕ → ℕ
+rowGain l count lefts rights a bt e z = pick (ltb z (count * l * l)) (cellGain l lefts rights a bt (e / l) (e % l) (z / l) (z % l)) 0
+
+widen : {d t : List ℕ} {at n : ℕ} {f : ℕ → ℕ} → Plus d at n f t → Plus d at (n + 1) (λ c. pick (ltb c n) (f c) 0) t
+widen {d} {t} {at} {n} {f} p = record {
+  long = p .long;
+  inside = λ k h.
+      elim (decLt k n) [
+        | yes b ↦ p .inside k b ∙ ap (add (getD d (at + k) 0)) (rw (lt-ltb k n b))
+        | no b ↦ let past : n ≤ k = omega arith in p .high (at + k) (omega arith) ∙ sym (rw (le-ltb k n past) (add-zero _))
+      ];
+  low = p .low;
+  high = λ k h. p .high k (omega arith);
+}
+
+pub row-widened : (l count : ℕ) (lefts rights a bt : List ℕ) (e : ℕ) {d t : List ℕ} {at : ℕ}
+    → PlusRows d at (count * l) l (cellGain l lefts rights a bt (e / l) (e % l)) t → Plus d at (count * l * l + 1) (rowGain l count lefts rights a bt e) t
+unfolding rowGain
+row-widened l count lefts rights a bt e p = widen (rows-plus p)
+
+-- ---- places
+
+pub record CellTurn (l count r c q : ℕ) : Type 0 where
+  pub row : q * l + l ≤ count * l * l
+  pub block : q / l * 25 + 25 ≤ count * 25
+  pub column : q % l < l
+
+pub cell-turn : (l count r c : ℕ) {q : ℕ} → 0 < l → q < count * l → CellTurn l count r c q
+cell-turn l count r c {q} hl h = record { row = row-fits l h; block = row-fits 25 (div-lt-iff-lt-mul hl .1 h); column = mod-lt q hl }
+
+pub record RowTurn (l width e : ℕ) : Type 0 where
+  pub row : e * width + width ≤ l * l * width
+  pub high : e / l < l
+  pub low : e % l < l
+  pub square : l * l ≤ 5 * 5
+
+pub row-turn : (l width : ℕ) {e : ℕ} → 0 < l → l ≤ 5 → e < l * l → RowTurn l width e
+row-turn l width {e} hl small h = record { row = row-fits width h; high = div-lt-iff-lt-mul hl .1 h; low = mod-lt e hl; square = mul-le-mul small small }

@@ -1,0 +1,46 @@
+// The table of the left sums: for each matrix index i', power a of S and oil index k, the sum over j of (S^a·X_j)ᵗ·F12(i', j, k).
+// Rows of o·l bytes, block row i'·l + a, block column k. First with P12; then those with P11, in a table of their own, times T12.
+ghost use mathlib.Core.Path.{_≡_};
+ghost use Prim.Native.Nat.{ℕ, _+_, _*_, _<_, _≤_};
+ghost use lib.ListN.{length};
+ghost use Rattle.rows.specs.PlusRows.{PlusRows};
+ghost use Rattle.sets.specs.Bounds.{Bounds};
+ghost use Rattle.sets.specs.Sets.{publicBytes};
+ghost use Rattle.system.specs.LeftRight.{leftRow};
+ghost use Rattle.system.specs.Filled.{LeftHolds};
+use super::products::add_left;
+use super::products::add_times;
+use sets::Set;
+
+// Room for l·l rows of v·l bytes.
+const SUMS: usize = 4800;
+
+// The rows of one matrix index, from byte `at` on. x holds the powers of S times the vinegar, t holds T12.
+fn add_left_index(left: &mut [u8], at: usize, set: Set, i: usize, public: &[u8], x: &[u8], t: &[u8])
+    requires { ⌜ Bounds set × ((i < set .o) × (at + set .l * set .l * (set .o * set .l) ≤ length (now left))) ⌝ }
+    requires { ⌜ (length (now public) ≡ publicBytes set) × ((set .v * set .l * (set .l * set .l) ≤ length (now x)) × (set .v * set .l * (set .o * set .l) ≤ length (now t))) ⌝ }
+    ensures { λ _. ⌜ PlusRows (now (left .entry)) at (set .l * set .l) (set .o * set .l) (leftRow set (now (public .entry)) (now (x .entry)) (now (t .entry)) i) (now (left .exit)) ⌝ }
+{
+    let v = set.v;
+    let o = set.o;
+    let l = set.l;
+    let mut z = [0u8; SUMS];
+    add_left(&mut z, 0, l, v, x, public, i * (v * v), v);
+    add_left(left, at, l, v, x, public, o * (v * v) + i * (v * o), o);
+    add_times(left, at, o * l, l * l, &z, v * l, t);
+}
+
+pub fn fill_left(left: &mut [u8], set: Set, public: &[u8], x: &[u8], t: &[u8])
+    requires { ⌜ Bounds set × (set .o * (set .l * set .l) * (set .o * set .l) ≤ length (now left)) ⌝ }
+    requires { ⌜ (length (now public) ≡ publicBytes set) × ((set .v * set .l * (set .l * set .l) ≤ length (now x)) × (set .v * set .l * (set .o * set .l) ≤ length (now t))) ⌝ }
+    ensures { λ _. ⌜ LeftHolds set (now (public .entry)) (now (x .entry)) (now (t .entry)) (now (left .entry)) (now (left .exit)) ⌝ }
+{
+    let o = set.o;
+    let l = set.l;
+    rows::clear(left);
+    let mut i = 0;
+    while i < o {
+        add_left_index(left, i * (l * l * (o * l)), set, i, public, x, t);
+        i += 1;
+    }
+}
