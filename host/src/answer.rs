@@ -1,0 +1,67 @@
+//! The numbers that a caller can receive, and what page 01 says of each.
+
+use std::fmt;
+
+/// An operation's answer: page 01's number.
+#[derive(Clone, Copy, PartialEq, Eq, PartialOrd, Ord, Debug)]
+pub struct Answer(pub u32);
+
+impl Answer {
+    pub const DONE: Answer = Answer(0);
+    pub const ACCEPTED: Answer = Answer(0);
+    pub const NOT_ACCEPTED: Answer = Answer(1);
+    pub const REDO: Answer = Answer(2);
+    pub const SET: Answer = Answer(10);
+    pub const PUBLIC: Answer = Answer(11);
+    pub const ABQ: Answer = Answer(12);
+    pub const PRIVATE: Answer = Answer(13);
+    pub const VINEGAR: Answer = Answer(14);
+    pub const TARGET: Answer = Answer(15);
+    pub const KEY: Answer = Answer(16);
+    pub const SALT: Answer = Answer(17);
+    pub const SIGNATURE: Answer = Answer(18);
+    pub const WORK: Answer = Answer(19);
+    pub const OUTPUT: Answer = Answer(20);
+    pub const NOT_INVERTIBLE: Answer = Answer(21);
+    pub const COUNTS: Answer = Answer(22);
+    pub const ENTRY: Answer = Answer(23);
+
+    pub fn number(self) -> u32 {
+        self.0
+    }
+
+    /// Whether the call was refused: every buffer is then as it was.
+    pub fn is_refusal(self) -> bool {
+        (10..=23).contains(&self.0)
+    }
+
+    /// Page 01's words for the number.
+    pub fn meaning(self) -> &'static str {
+        match self.0 {
+            0 => "done, or accepted",
+            1 => "not accepted",
+            2 => "redo: this vinegar gives no signature, try another",
+            10 => "the set, or a size l, is outside the limits",
+            11 => "length of the public stream is not the exact one",
+            12 => "length of the ABQ stream is not the exact one",
+            13 => "length of the private stream is not the exact one",
+            14 => "length of the vinegar stream is not the exact one",
+            15 => "length of the target stream is not the exact one",
+            16 => "length of the key is not the exact one",
+            17 => "the salt is not 16 bytes",
+            18 => "length of the signature is not the exact one",
+            19 => "length of the work area is not the exact one",
+            20 => "length of the output is not the exact one",
+            21 => "an A or B cannot be made invertible",
+            22 => "packing or unpacking: element and byte counts do not fit",
+            23 => "an element or matrix entry is above 15",
+            _ => "no number of page 01",
+        }
+    }
+}
+
+impl fmt::Display for Answer {
+    fn fmt(&self, f: &mut fmt::Formatter) -> fmt::Result {
+        write!(f, "{} ({})", self.0, self.meaning())
+    }
+}

@@ -1,0 +1,86 @@
+//! `snova kat`: checks response files and writes the host's own.
+
+use super::args::{Args, Command, ENGINE, EXPANSION, opt, read_set};
+use super::failure::Failure;
+use super::output::write_file;
+use super::progress::Progress;
+use crate::answer::Answer;
+use crate::kat;
+use crate::scheme::Scheme;
+use crate::set::{ROUND_2, Set};
+
+pub const COMMAND: Command = Command {
+    name: "kat",
+    about: "check known-answer files (PQCsignKAT_*.rsp), or write our own",
+    usage: "check FILE ..\n\
+            write SET|all --dir FOLDER [--count NUMBER] [--expansion NAME]",
+    notes: "check finds the set by the lengths of an entry and the expansion by its key, and names the\n\
+            first step at which an entry disagrees; the exit status is then 1.",
+    options: &[
+        opt("--dir", "FOLDER", "where files are written"),
+        opt("--count", "NUMBER", "of entries in a file (the default is 100)"),
+        EXPANSION,
+        ENGINE,
+    ],
+    run,
+};
+
+fn run(args: &Args) -> Result<Answer, Failure> {
+    match args.plain() {
+        [word, files @ ..] if word == "check" && !files.is_empty() => check_files(args, files),
+        [word, set] if word == "write" => {
+            let sets = if set == "all" { ROUND_2.to_vec() } else { vec![read_set(set)?] };
+            write_files(args, &sets)
+        }
+        _ => Err(Failure::usage("'check FILE ..' or 'write SET' must stand; snova kat --help")),
+    }
+}
+
+fn check_files(args: &Args, files: &[String]) -> Result<Answer, Failure> {
+    let mut answer = Answer::ACCEPTED;
+    for file in files {
+        answer = answer.max(check_file(args, file)?);
+    }
+    Ok(answer)
+}
+
+fn check_file(args: &Args, file: &str) -> Result<Answer, Failure> {
+    let text = std::fs::read_to_string(file)
+        .map_err(|error| Failure::file(format!("cannot read '{file}': {error}")))?;
+    let entries = kat::read(&text).map_err(|fault| Failure::file(format!("'{file}': {fault}")))?;
+    let scheme = kat::identify(&entries, args.engine()?)
+        .map_err(|reason| Failure::file(format!("'{file}': {reason}")))?;
+    let title = kat::title(&scheme);
+    let mut progress = Progress::new();
+    for (at, entry) in entries.iter().enumerate() {
+        progress.say(&format!("snova kat: {title}, entry {} of {}", at + 1, entries.len()));
+        if let Err(mismatch) = kat::check(&scheme, entry) {
+            drop(progress);
+            println!("{file}: {title}: {mismatch}");
+            return Ok(Answer::NOT_ACCEPTED);
+        }
+    }
+    drop(progress);
+    println!("{file}: {title}: {} entries agree", entries.len());
+    Ok(Answer::ACCEPTED)
+}
+
+fn write_files(args: &Args, sets: &[Set]) -> Result<Answer, Failure> {
+    let folder = args.required("--dir")?;
+    let count: u32 = args.parsed("--count", 100)?;
+    for &set in sets {
+        let refused = |answer| Failure::answer(answer, set);
+        let scheme = Scheme::new(set, args.expansion()?, args.engine()?).map_err(refused)?;
+        let title = kat::title(&scheme);
+        let mut progress = Progress::new();
+        let entries = kat::make(&scheme, count, |done| {
+            progress.say(&format!("snova kat: {title}, entry {done} of {count}"));
+        });
+        let entries = entries.map_err(refused)?;
+        drop(progress);
+        let path = format!("{folder}/{}", kat::file_name(&scheme));
+        write_file("--dir", &path, kat::write(&title, &entries).as_bytes())?;
+        println!("{path}: {count} entries");
+    }
+    Ok(Answer::DONE)
+}
