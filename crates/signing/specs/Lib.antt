@@ -3,6 +3,7 @@ pub mod Signature
 pub mod Writing
 pub mod Emitting
 pub mod Solving
+pub mod Building
 pub mod Refusals
 pub mod Outcomes
 pub mod Unique

@@ -15,8 +15,12 @@ use Rattle.scheme.specs.Oil.{joined, OnlyZero, redo-exclusive, unique-oil}
 use Rattle.scheme.specs.Verdict.{accepted, accepted-change, entries-meet}
 use Rattle.signing.specs.declared.Signing.{Signing}
 use Rattle.signing.specs.declared.Signing.the-variants.{Done, Redo, Refused}
-use Rattle.signing.specs.Signs.{signRefusals, Again, Emitted, Signs}
+use Rattle.ground.specs.Outcome.{unique-equation}
+use Rattle.signing.specs.Signs.{numberOf, signRefusals, Again, Emitted, Signs}
 use Rattle.signing.specs.Signature.{signature-cong}
+
+pub unique-number : (answer : Signing) {n n′ : ℕ} → n ≡ numberOf answer → n′ ≡ numberOf answer → n ≡ n′
+unique-number answer = unique-equation
 
 done-not-redo : (r : Signing) → r ≡ Done → r ≡ Redo → ⊥
 done-not-redo r p q = let z : _≡_ {A = ℕ} 0 1 = cc in omega arith

@@ -1,6 +1,18 @@
 // Signing (document 000, Algorithm 7): the vinegar fixes the first v matrices of X, the linear system gives the oil, and the signature holds the U whose image is X.
 // `Signs` of specs/Signs.antt is the promise; specs/Unique.antt shows that it has one outcome and that what is emitted is accepted.
+mod numbers;
+mod solving;
 mod writing;
+
+pub use numbers::number;
+ghost use mathlib.Core.Path.{_≡_};
+ghost use Rattle.ground.specs.Answers.{lowest};
+ghost use Rattle.signing.specs.Signs.{signRefusals, Signs};
+use ground::Answer;
+use linear::Outcome;
+use sets::Set;
+use solving::solve;
+use writing::emit;
 
 // Done: the output holds the signature. Redo: some oil choice, not all zero, is sent to zero, and the host tries again with another vinegar.
 // Refused: page 01's number.
@@ -8,4 +20,80 @@ pub enum Signing {
     Done,
     Redo,
     Refused(u32),
+}
+
+// Signing where nothing is refused.
+fn sign_lent(
+    set: Set,
+    public: &[u8],
+    abq: &[u8],
+    private: &[u8],
+    vinegar: &[u8],
+    target: &[u8],
+    salt: &[u8],
+    work: &mut [u8],
+    output: &mut [u8],
+) -> Signing
+    requires { ⌜ lowest (signRefusals set (now public) (now abq) (now private) (now vinegar) (now target) (now salt) (now work) (now output)) ≡ 0 ⌝ }
+    ensures { λ r. ⌜ Signs set (now (public .entry)) (now (abq .entry)) (now (private .entry)) (now (vinegar .entry)) (now (target .entry)) (now (salt .entry))
+        (now (work .entry)) (now (output .entry)) r (now (work .exit)) (now (output .exit)) ⌝ }
+{
+    let outcome = solve(work, set, public, abq, private, vinegar, target);
+    match outcome {
+        Outcome::Solved => {
+            emit(output, set, private, vinegar, salt, work);
+            rows::clear(work);
+            Signing::Done
+        }
+        Outcome::Singular => {
+            rows::clear(work); // the output stays as it was
+            Signing::Redo
+        }
+    }
+}
+
+// Signs the target with the vinegar. A refusal is decided before the first byte is written; on Done and Redo the work area is left all zero.
+pub fn sign(
+    set: Set,
+    public: &[u8],
+    abq: &[u8],
+    private: &[u8],
+    vinegar: &[u8],
+    target: &[u8],
+    salt: &[u8],
+    work: &mut [u8],
+    output: &mut [u8],
+) -> Signing
+    ensures { λ r. ⌜ Signs set (now (public .entry)) (now (abq .entry)) (now (private .entry)) (now (vinegar .entry)) (now (target .entry)) (now (salt .entry))
+        (now (work .entry)) (now (output .entry)) r (now (work .exit)) (now (output .exit)) ⌝ }
+{
+    let refusal = sets::sign_refusal(
+        set,
+        public.len(),
+        abq.len(),
+        private.len(),
+        vinegar.len(),
+        target.len(),
+        salt.len(),
+        work.len(),
+        output.len(),
+    );
+    if refusal != 0 {
+        return Signing::Refused(refusal);
+    }
+    let invertible = terms::all_invertible(set, abq);
+    let Answer::Done = invertible else {
+        return Signing::Refused(ground::number(invertible));
+    };
+    sign_lent(
+        set,
+        public,
+        abq,
+        private,
+        vinegar,
+        target,
+        salt,
+        work,
+        output,
+    )
 }

@@ -1,0 +1,139 @@
+-- `signing::build_system` meets its contract: each table is filled from the one before, and the built rows are page 01's system (`system-holds`). Rests on Building.
+use Rattle.scheme.specs.Streams.{vinegarOf}
+use Rattle.system.specs.System.{system-holds}
+use Rattle.signing.specs.Building.{built-from, system-room, kept-room, powers-room, private-room, vinegar-room, left-room, right-room, sums-room}
+use native.Mathlib.Omega.{arith}
+use borrow.Author.Needs.{needs}
+use Rattle.signing.proofs.solving.build_system.Statement.{statement}
+use Rattle.signing.proofs.solving.build_system.Tie as tie
+
+slice-aggregate-powers-of-s : tie.Need-slice-aggregate-powers-of-s
+slice-aggregate-powers-of-s c = search needs
+
+powers-of-s-requires : tie.Need-powers-of-s-requires
+powers-of-s-requires c κs = search needs
+
+slice-aggregate-private-table : tie.Need-slice-aggregate-private-table
+slice-aggregate-private-table c = search needs
+
+slice-aggregate-private-table-2 : tie.Need-slice-aggregate-private-table-2
+slice-aggregate-private-table-2 c = search needs
+
+private-table-requires : tie.Need-private-table-requires
+private-table-requires c κs =
+    let s = c .before .before .before .before .before .before .before .before .before .before .before in
+    let b = s .pre .0 .0 in
+    let sp = c .before .before .before .powers-of-s in
+    (b, ((s .pre .1 .0 .1 .1, private-room b, kept-room (powers-room b) (sp .kept .0)), sp .ensures .holds))
+
+slice-aggregate-load-vinegar : tie.Need-slice-aggregate-load-vinegar
+slice-aggregate-load-vinegar c = search needs
+
+slice-aggregate-load-vinegar-2 : tie.Need-slice-aggregate-load-vinegar-2
+slice-aggregate-load-vinegar-2 c = search needs
+
+load-vinegar-requires : tie.Need-load-vinegar-requires
+load-vinegar-requires c κs =
+    let s = c .before .before .before .before .before .before .before .before .before .before .before .before .before .before .before in
+    let b = s .pre .0 .0 in
+    let sp = c .before .before .before .before .before .before .before .powers-of-s in
+    ((b, s .pre .1 .1 .0), (vinegar-room b, (kept-room (powers-room b) (sp .kept .0), sp .ensures .holds)))
+
+slice-aggregate-fill-left : tie.Need-slice-aggregate-fill-left
+slice-aggregate-fill-left c = search needs
+
+slice-aggregate-fill-left-2 : tie.Need-slice-aggregate-fill-left-2
+slice-aggregate-fill-left-2 c = search needs
+
+slice-aggregate-fill-left-3 : tie.Need-slice-aggregate-fill-left-3
+slice-aggregate-fill-left-3 c = search needs
+
+fill-left-requires : tie.Need-fill-left-requires
+fill-left-requires c κs =
+    let s = c .before .before .before .before .before .before .before .before .before .before .before .before .before .before .before .before .before .before .before .before in
+    let b = s .pre .0 .0 in
+    ((b, left-room b), (s .pre .1 .0 .0, (kept-room (vinegar-room b) (c .before .before .before .before .load-vinegar .kept .0), kept-room (private-room b) (c .before .before .before .before .before .before .before .before .private-table .kept .0))))
+
+slice-aggregate-fill-right : tie.Need-slice-aggregate-fill-right
+slice-aggregate-fill-right c = search needs
+
+slice-aggregate-fill-right-2 : tie.Need-slice-aggregate-fill-right-2
+slice-aggregate-fill-right-2 c = search needs
+
+slice-aggregate-fill-right-3 : tie.Need-slice-aggregate-fill-right-3
+slice-aggregate-fill-right-3 c = search needs
+
+slice-aggregate-fill-right-4 : tie.Need-slice-aggregate-fill-right-4
+slice-aggregate-fill-right-4 c = search needs
+
+fill-right-requires : tie.Need-fill-right-requires
+fill-right-requires c κs =
+    let s = c .before .before .before .before .before .before .before .before .before .before .before .before .before .before .before .before .before .before .before .before .before .before .before .before .before .before in
+    let b = s .pre .0 .0 in
+    let x = kept-room (vinegar-room b) (c .before .before .before .before .before .before .before .before .before .before .load-vinegar .kept .0) in
+    let t = kept-room (private-room b) (c .before .before .before .before .before .before .before .before .before .before .before .before .before .before .private-table .kept .0) in
+    ((b, (right-room b, sums-room b)), (s .pre .1 .0 .0, (x, t)))
+
+slice-aggregate-build : tie.Need-slice-aggregate-build
+slice-aggregate-build c = search needs
+
+slice-aggregate-build-2 : tie.Need-slice-aggregate-build-2
+slice-aggregate-build-2 c = search needs
+
+slice-aggregate-build-3 : tie.Need-slice-aggregate-build-3
+slice-aggregate-build-3 c = search needs
+
+slice-aggregate-build-4 : tie.Need-slice-aggregate-build-4
+slice-aggregate-build-4 c = search needs
+
+build-requires : tie.Need-build-requires
+build-requires c κs =
+    let s = c .before .before .before .before .before .before .before .before .before .before .before .before .before .before .before .before .before .before .before .before .before .before .before .before .before .before .before .before .before .before .before .before .before .before in
+    let b = s .pre .0 .0 in
+    let left = kept-room (left-room b) (c .before .before .before .before .before .before .before .before .before .before .before .before .before .fill-left .kept .0) in
+    let right = kept-room (right-room b) (c .before .before .before .before .before .before .before .fill-right .kept .0) in
+    let sp = kept-room (powers-room b) (c .before .before .before .before .before .before .before .before .before .before .before .before .before .before .before .before .before .before .before .before .before .before .before .before .before .before .powers-of-s .kept .0) in
+    let sums = kept-room (sums-room b) (c .before .before .before .before .before .before .before .fill-right .kept .1 .0) in
+    ((b, system-room (s .args .set) (s .pre .1 .1 .1 .1)), ((s .pre .1 .0 .1 .0, (s .pre .0 .1, s .pre .1 .1 .1 .0)), (left, (right, (sp, sums)))))
+
+same-length : tie.Need-same-length
+same-length c = search needs
+
+returns : tie.Need-returns
+returns c =
+    let s = c .before .before .before .before .before .before .before .before .before .before .before .before .before .before .before .before .before .before .before .before .before .before .before .before .before .before .before .before .before .before .before .before .before .before .before .before .before in
+    let a = s .args in
+    built-from
+    (system-holds (a .set) (s .pre .0 .0) (a .public .now) (a .abq .now) (a .private .now) (vinegarOf (a .set) (a .vinegar .now))
+    (c .before .before .before .before .before .before .before .before .before .before .before .before .before .before .before .before .before .before .before .before .before .load-vinegar .last .0) (c .before .before .before .before .before .before .before .before .before .before .before .before .before .before .before .before .before .before .before .before .before .before .before .before .before .private-table .last .0) (c .before .before .before .before .before .before .before .before .before .before .before .before .before .before .before .before .fill-left .last .0) (c .before .before .before .before .before .before .before .before .before .before .fill-right .last .0) (c .before .before .before .before .before .before .before .before .before .before .fill-right .last .1 .0) (c .before .before .before .before .before .before .before .before .before .before .before .before .before .before .before .before .before .before .before .before .before .before .before .before .before .before .before .before .before .powers-of-s .last .0)
+    (c .before .before .before .before .before .before .before .before .before .before .before .before .before .before .before .before .before .before .before .before .before .load-vinegar .ensures) (c .before .before .before .before .before .before .before .before .before .before .before .before .before .before .before .before .before .before .before .before .before .before .before .before .before .private-table .ensures .holds) (c .before .before .before .before .before .before .before .before .before .before .before .before .before .before .before .before .before .before .before .before .before .before .before .before .before .before .before .before .before .powers-of-s .ensures .holds)
+    (c .before .before .before .before .before .before .before .before .before .before .before .before .before .before .before .before .fill-left .ensures) (c .before .before .before .before .before .before .before .before .before .before .fill-right .ensures .0) (c .before .before .before .before .before .before .before .before .before .before .fill-right .ensures .1) (c .before .before .build .ensures))
+
+pub build-system-spec : {M : Type 1} → statement M
+build-system-spec =
+    tie.close
+    (tie.spec
+    slice-aggregate-powers-of-s
+    powers-of-s-requires
+    slice-aggregate-private-table
+    slice-aggregate-private-table-2
+    private-table-requires
+    slice-aggregate-load-vinegar
+    slice-aggregate-load-vinegar-2
+    load-vinegar-requires
+    slice-aggregate-fill-left
+    slice-aggregate-fill-left-2
+    slice-aggregate-fill-left-3
+    fill-left-requires
+    slice-aggregate-fill-right
+    slice-aggregate-fill-right-2
+    slice-aggregate-fill-right-3
+    slice-aggregate-fill-right-4
+    fill-right-requires
+    slice-aggregate-build
+    slice-aggregate-build-2
+    slice-aggregate-build-3
+    slice-aggregate-build-4
+    build-requires
+    same-length
+    returns)

@@ -1,0 +1,50 @@
+-- `signing::load_vinegar` meets its contract: the vinegar unpacked, then times each power of S (`vinegar-powers`). Rests on Building.
+use mathlib.Core.Path.{_∙_}
+use Rattle.signing.specs.Emitting.{some-l, vinegar-within}
+use Rattle.signing.specs.Building.{vinegar-powers}
+use native.Mathlib.Omega.{arith}
+use borrow.Author.Needs.{needs}
+use Rattle.signing.proofs.solving.load_vinegar.Statement.{statement}
+use Rattle.signing.proofs.solving.load_vinegar.Tie as tie
+
+vinegar-count-requires : tie.Need-vinegar-count-requires
+vinegar-count-requires c κs = search needs
+
+slice-aggregate-unpack-all : tie.Need-slice-aggregate-unpack-all
+slice-aggregate-unpack-all c = search needs
+
+unpack-all-requires : tie.Need-unpack-all-requires
+unpack-all-requires c κs =
+    let s = c .before .before .before .before .before in
+    let b = s .pre .0 .0 in
+    let n = c .before .vinegar-count .ensures in
+    (omega (arith, n, b .sizes .vinegar), omega (arith, n, vinegar-within (s .args .set) (s .pre .0 .1)))
+
+slice-aggregate-power-table : tie.Need-slice-aggregate-power-table
+slice-aggregate-power-table c = search needs
+
+power-table-requires : tie.Need-power-table-requires
+power-table-requires c κs =
+    let s = c .before .before .before .before .before .before .before .before .before in
+    let b = s .pre .0 .0 in
+    ((some-l b, s .pre .1 .0, omega (arith, b .products .vll, c .before .before .before .unpack-all .kept .0), s .pre .1 .1 .0), s .pre .1 .1 .1)
+
+same-length : tie.Need-same-length
+same-length c = search needs
+
+returns : tie.Need-returns
+returns c =
+    let s = c .before .before .before .before .before .before .before .before .before .before .before .before in
+    vinegar-powers (s .args .set) (c .before .before .before .before .before .before .before .before .vinegar-count .ensures ∙ s .pre .0 .0 .counts .vinegar) (c .before .before .before .before .before .before .unpack-all .ensures) (c .before .before .power-table .ensures)
+
+pub load-vinegar-spec : {M : Type 1} → statement M
+load-vinegar-spec =
+    tie.close
+    (tie.spec
+    vinegar-count-requires
+    slice-aggregate-unpack-all
+    unpack-all-requires
+    slice-aggregate-power-table
+    power-table-requires
+    same-length
+    returns)

@@ -1,0 +1,31 @@
+-- `signing::solve` meets its contract: the built system is an area of elements, and what elimination finds of it is page 01's (`solving-from`). Rests on Building.
+use Rattle.signing.specs.Emitting.{some-l, system-within}
+use Rattle.signing.specs.Building.{built-area, solving-from}
+use native.Mathlib.Omega.{arith}
+use borrow.Author.Needs.{needs}
+use Rattle.signing.proofs.solving.solve.Statement.{statement}
+use Rattle.signing.proofs.solving.solve.Tie as tie
+
+build-system-requires : tie.Need-build-system-requires
+build-system-requires c κs =
+    c .before .before .before .before .before .before .before .pre
+
+unknowns-requires : tie.Need-unknowns-requires
+unknowns-requires c κs = search needs
+
+eliminate-requires : tie.Need-eliminate-requires
+eliminate-requires c κs =
+    let s = c .before .before .before .before .before .before .before .before .before .before .before .before in
+    built-area (s .pre .0 .0) (c .before .unknowns .ensures) (system-within (s .args .set) (c .before .before .before .before .build-system .kept .0) (s .pre .1 .1 .1 .1)) (c .before .before .before .before .build-system .ensures)
+
+same-length : tie.Need-same-length
+same-length c = search needs
+
+returns : tie.Need-returns
+returns c =
+    solving-from (some-l (c .before .before .before .before .before .before .before .before .before .before .before .before .before .before .before .pre .0 .0)) (c .before .before .before .before .unknowns .ensures) (c .before .before .before .before .before .before .before .build-system .ensures) (c .before .before .eliminate .ensures)
+
+pub solve-spec : {M : Type 1} → statement M
+solve-spec =
+    tie.close
+    (tie.spec build-system-requires unknowns-requires eliminate-requires same-length returns)
