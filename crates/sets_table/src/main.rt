@@ -1,4 +1,5 @@
-// Writes page 01's table of lengths, then its cases of refused sets and of signature lengths. It only writes what the crate `sets` answers.
+// Writes page 01's table of lengths and the cases that end its pages for the course: sets inside and outside the limits, signatures of 247 to 249 bytes.
+// Then further sets outside the limits. It only writes what the crates `sets` and `salt` answer.
 use libc::STDOUT_FILENO;
 use sets::Set;
 
@@ -11,11 +12,16 @@ fn main() {
     lengths(set(25, 8, 3));
     lengths(set(37, 17, 2));
     lengths(set(1, 1, 2));
-    text(b"\n| set | key generation with the lengths above |\n|---|---|\n");
-    refusal(set(60, 10, 4));
+    text(b"\n| set | key generation with the set's own lengths |\n|---|---|\n");
     refusal(set(33, 33, 4));
+    refusal(set(60, 10, 4));
     refusal(set(24, 5, 1));
     refusal(set(24, 5, 5));
+    text(b"\n| set | bytes of the signature | its salt |\n|---|---|---|\n");
+    signature(set(24, 5, 4), &[0; 247]);
+    signature(set(24, 5, 4), &[0; 248]);
+    signature(set(24, 5, 4), &[0; 249]);
+    text(b"\n| further set | key generation with the set's own lengths |\n|---|---|\n");
     refusal(set(0, 5, 4));
     refusal(set(76, 5, 4));
     refusal(set(24, 0, 4));
@@ -23,10 +29,6 @@ fn main() {
     refusal(set(LARGEST, LARGEST, LARGEST));
     refusal(set(24, LARGEST, 4));
     refusal(set(24, 5, LARGEST));
-    text(b"\n| set | signature | salt |\n|---|---|---|\n");
-    salt(set(24, 5, 4), 247);
-    salt(set(24, 5, 4), 248);
-    salt(set(24, 5, 4), 249);
 }
 
 fn set(v: usize, o: usize, l: usize) -> Set {
@@ -60,11 +62,12 @@ fn refusal(s: Set) {
     text(b"\n");
 }
 
-// What reading the salt answers for a signature of a length.
-fn salt(s: Set, signature: usize) {
+// What the salt's second call answers for a signature: 0, 10 or 18.
+fn signature(s: Set, bytes: &[u8]) {
     name(s);
-    cell(signature);
-    cell(sets::salt_refusal(s, signature) as usize);
+    cell(bytes.len());
+    let status = salt::salt_status(s, bytes);
+    cell(ground::number(status) as usize);
     text(b"\n");
 }
 
