@@ -16,7 +16,7 @@ mul-w c = omega (arith, c .before .before .before .before .pre .0 .products .ol)
 mul-at : tie.Need-mul-at
 mul-at c =
     let begin = c .before .before .before .before in
-    omega (arith, turn (begin), begin .pre .1 .1)
+    omega (arith, turn begin, begin .pre .1 .1)
 
 div-p12-number : tie.Need-div-p12-number
 div-p12-number c = omega (arith, turn (c .before .before .before .before))
@@ -24,7 +24,7 @@ div-p12-number c = omega (arith, turn (c .before .before .before .before))
 p12-number-requires : tie.Need-p12-number-requires
 p12-number-requires c κs =
     let begin = c .before .before .before .before in
-    (begin .pre .0, (begin .pre .1 .0 .0, turn (begin) .block))
+    (begin .pre .0, (begin .pre .1 .0 .0, turn begin .block))
 
 div-p11-number : tie.Need-div-p11-number
 div-p11-number c = omega (arith, turn (c .before .before .before .before .before))
@@ -32,7 +32,7 @@ div-p11-number c = omega (arith, turn (c .before .before .before .before .before
 p11-number-requires : tie.Need-p11-number-requires
 p11-number-requires c κs =
     let begin = c .before .before .before .before .before in
-    (begin .pre .0, (begin .pre .1 .0 .0, turn (begin) .block))
+    (begin .pre .0, (begin .pre .1 .0 .0, turn begin .block))
 
 rem-add-block-row : tie.Need-rem-add-block-row
 rem-add-block-row c = omega (arith, turn (c .before .before .before .before .before .before .before))
@@ -40,7 +40,11 @@ rem-add-block-row c = omega (arith, turn (c .before .before .before .before .bef
 add-block-row-requires : tie.Need-add-block-row-requires
 add-block-row-requires c κs =
     let begin = c .before .before .before .before .before .before .before in
-    omega (arith, turn (begin), c .before .before .p12-number .ensures .within, public-within (begin .args .set) (begin .pre .1 .0 .2), begin .pre .1 .1)
+    let blocks = c .before .before .p12-number .ensures .within in (
+      omega (arith, turn begin .row, begin .pre .1 .1 .0),
+      turn begin .entry,
+      omega (arith, blocks, public-within (begin .args .set) (begin .pre .1 .0 .2)),
+    )
 
 rem-add-product-row : tie.Need-rem-add-product-row
 rem-add-product-row c = omega (arith, turn (c .before .before .before .before .before .before .before .before .before .before .before))
@@ -48,16 +52,25 @@ rem-add-product-row c = omega (arith, turn (c .before .before .before .before .b
 add-product-row-requires : tie.Need-add-product-row-requires
 add-product-row-requires c κs =
     let begin = c .before .before .before .before .before .before .before .before .before .before .before in
-    omega (arith, turn (begin), c .before .before .before .before .before .p11-number .ensures .within, public-within (begin .args .set) (begin .pre .1 .0 .2), begin .pre .1 .1, c .before .before .before .add-block-row .kept .0)
+    let blocks = c .before .before .before .before .before .p11-number .ensures .within in (
+      omega (arith, turn begin .row, begin .pre .1 .1 .0, c .before .before .before .add-block-row .kept .0),
+      turn begin .entry,
+      omega (arith, blocks, public-within (begin .args .set) (begin .pre .1 .0 .2)),
+      omega (arith, begin .pre .1 .1 .1),
+      turn begin .wide,
+    )
 
 same-length : tie.Need-same-length
 same-length c = search needs
 
 returns : tie.Need-returns
 returns c =
-    let begin = c .before .before .before .before .before .before .before .before .before .before .before .before .before .before in
-    f12-row (begin .args .set) (begin .args .public .now) (begin .args .t .now) (begin .args .i) (begin .args .y)
-    (c .before .before .before .before .before .before .before .before .before .p12-number .ensures .is) (c .before .before .before .before .before .before .before .before .p11-number .ensures .is) (c .before .before .before .before .before .before .add-block-row .ensures) (c .before .before .add-product-row .ensures)
+    let numbers = c .before .before .before .before .before .before .before .before in
+    let begin = numbers .before .before .before .before .before .before in
+    let a = begin .args in
+    f12-row (a .set) (a .public .now) (a .t .now) (a .i) (a .y)
+    (numbers .before .p12-number .ensures .is) (numbers .p11-number .ensures .is)
+    (c .before .before .before .before .before .before .add-block-row .ensures) (c .before .before .add-product-row .ensures)
 
 pub f12-row-spec : {M : Type 1} → statement M
 f12-row-spec =

@@ -16,7 +16,7 @@ mul-w c = omega (arith, c .before .before .before .before .before .pre .0 .produ
 mul-at : tie.Need-mul-at
 mul-at c =
     let begin = c .before .before .before .before .before in
-    omega (arith, turn (begin), begin .pre .1 .1)
+    omega (arith, turn begin, begin .pre .1 .1)
 
 mul-count : tie.Need-mul-count
 mul-count c = omega (arith, c .before .before .before .before .before .before .pre .0 .products .vl)
@@ -27,12 +27,12 @@ div-p21-number c = omega (arith, turn (c .before .before .before .before .before
 p21-number-requires : tie.Need-p21-number-requires
 p21-number-requires c κs =
     let begin = c .before .before .before .before .before .before in
-    (begin .pre .0, (begin .pre .1 .0 .0, turn (begin) .block))
+    (begin .pre .0, (begin .pre .1 .0 .0, turn begin .block))
 
 add-columns-requires : tie.Need-add-columns-requires
 add-columns-requires c κs =
     let begin = c .before .before .before .before .before .before .before .before in
-    (omega (arith, turn (begin), begin .pre .1 .1), column-within (begin .pre .1 .0 .1) (begin .pre .1 .1 .1))
+    (omega (arith, turn begin, begin .pre .1 .1), column-within (begin .pre .1 .0 .1) (begin .pre .1 .1 .1))
 
 rem-add-product-row : tie.Need-rem-add-product-row
 rem-add-product-row c = omega (arith, turn (c .before .before .before .before .before .before .before .before .before .before .before .before))
@@ -40,16 +40,24 @@ rem-add-product-row c = omega (arith, turn (c .before .before .before .before .b
 add-product-row-requires : tie.Need-add-product-row-requires
 add-product-row-requires c κs =
     let begin = c .before .before .before .before .before .before .before .before .before .before .before .before in
-    omega (arith, turn (begin), c .before .before .before .before .before .p21-number .ensures .within, public-within (begin .args .set) (begin .pre .1 .0 .2), begin .pre .1 .1, c .before .before .before .add-columns .kept .0)
+    let blocks = c .before .before .before .before .before .p21-number .ensures .within in (
+      omega (arith, turn begin .row, begin .pre .1 .1 .0, c .before .before .before .add-columns .kept .0),
+      turn begin .entry,
+      omega (arith, blocks, public-within (begin .args .set) (begin .pre .1 .0 .2)),
+      omega (arith, begin .pre .1 .1 .1),
+      turn begin .wide,
+    )
 
 same-length : tie.Need-same-length
 same-length c = search needs
 
 returns : tie.Need-returns
 returns c =
-    let begin = c .before .before .before .before .before .before .before .before .before .before .before .before .before .before .before in
-    p22-row (begin .args .set) (begin .args .public .now) (begin .args .t .now) (begin .args .f .now) (begin .args .i) (begin .args .y)
-    (c .before .before .before .before .before .before .before .before .p21-number .ensures .is) (c .before .before .before .before .before .before .add-columns .ensures) (c .before .before .add-product-row .ensures)
+    let number = c .before .before .before .before .before .before .before .before in
+    let begin = number .before .before .before .before .before .before .before in
+    let a = begin .args in
+    p22-row (a .set) (a .public .now) (a .t .now) (a .f .now) (a .i) (a .y)
+    (number .p21-number .ensures .is) (c .before .before .before .before .before .before .add-columns .ensures) (c .before .before .add-product-row .ensures)
 
 pub p22-row-spec : {M : Type 1} → statement M
 p22-row-spec =
