@@ -1,5 +1,6 @@
 -- `verdict::verify` meets its contract: the lengths' refusal, then 21 as Algorithm 2's helper gives it, then the comparison. Rests on Promise.
 use mathlib.Core.Path.{sym, _∙_}
+use mathlib.Core.Bool.{Bool}
 use lib.ListN.{length}
 use Rattle.sets.specs.Bounds.{bounds}
 use Rattle.sets.specs.Fits.{verdict-fits}
@@ -9,16 +10,26 @@ use borrow.Author.Needs.{needs}
 use Rattle.verdict.proofs.verify.Statement.{statement}
 use Rattle.verdict.proofs.verify.Tie as tie
 
+-- what the comparison says of the arguments
+abbrev compares : tie.Start → Bool
+compares s = accepted (s .args .set) (s .args .public .now) (s .args .abq .now) (s .args .key .now) (s .args .signature .now) (s .args .target .now)
+
 verdict-refusal-requires : tie.Need-verdict-refusal-requires
 verdict-refusal-requires c κs = search needs
 
 returns : tie.Need-returns
-returns c = let a = c .before .before .before .before .before .before .before .args in refused-lengths (a .set) (a .public .now) (a .abq .now) (a .target .now) (a .key .now) (a .signature .now) (accepted (a .set) (a .public .now) (a .abq .now) (a .key .now) (a .signature .now) (a .target .now)) (c .before .verdict-refusal .ensures) (c .if1 .taken)
+returns c =
+    let begin = c .before .before .before .before .before .before .before in
+    let a = begin .args in
+    refused-lengths (a .set) (a .public .now) (a .abq .now) (a .target .now) (a .key .now) (a .signature .now) (compares begin)
+    (c .before .verdict-refusal .ensures) (c .if1 .taken)
 
 all-invertible-requires : tie.Need-all-invertible-requires
 all-invertible-requires c κs =
     let a = c .before .before .before .before .before .before .before .args in
-    let f = verdict-fits (a .set) (length (a .public .now)) (length (a .abq .now)) (length (a .target .now)) (length (a .key .now)) (length (a .signature .now)) (sym (c .before .verdict-refusal .ensures) ∙ c .if1 .left) in
+    let f =
+    verdict-fits (a .set) (length (a .public .now)) (length (a .abq .now)) (length (a .target .now)) (length (a .key .now)) (length (a .signature .now))
+    (sym (c .before .verdict-refusal .ensures) ∙ c .if1 .left) in
     (bounds (a .set) (f .allowed), f .abq)
 
 enum-told : tie.Need-enum-told
@@ -32,24 +43,39 @@ number-requires c κs = search needs
 
 returns-2 : tie.Need-returns-2
 returns-2 c =
-    let a = c .before .before .before .before .before .before .before .before .before .before .before .args in
-    refused-21 (a .set) (a .public .now) (a .abq .now) (a .target .now) (a .key .now) (a .signature .now) (accepted (a .set) (a .public .now) (a .abq .now) (a .key .now) (a .signature .now) (a .target .now)) (c .before .before .before .before .before .verdict-refusal .ensures) (c .before .before .before .before .if1 .left) (c .before .before .before .all-invertible .ensures) (c .before .enum-told2 .given .1) (c .number .ensures)
+    let passed = c .before .before .before .before in
+    let begin = passed .before .before .before .before .before .before .before in
+    let a = begin .args in
+    refused-21 (a .set) (a .public .now) (a .abq .now) (a .target .now) (a .key .now) (a .signature .now) (compares begin)
+    (passed .before .verdict-refusal .ensures) (passed .if1 .left) (c .before .before .before .all-invertible .ensures) (c .before .enum-told2 .given .1) (c .number .ensures)
 
 accepts-requires : tie.Need-accepts-requires
 accepts-requires c κs =
-    let a = c .before .before .before .before .before .before .before .before .before .before .args in
-    let f = verdict-fits (a .set) (length (a .public .now)) (length (a .abq .now)) (length (a .target .now)) (length (a .key .now)) (length (a .signature .now)) (sym (c .before .before .before .before .verdict-refusal .ensures) ∙ c .before .before .before .if1 .left) in
-    ((bounds (a .set) (f .allowed), f .public, f .abq, all-invertible-met (a .set) (a .abq .now) (c .before .before .all-invertible .ensures) (c .enum-told .given .1)), (f .target, f .key, f .signature))
+    let passed = c .before .before .before in
+    let a = passed .before .before .before .before .before .before .before .args in
+    let f =
+    verdict-fits (a .set) (length (a .public .now)) (length (a .abq .now)) (length (a .target .now)) (length (a .key .now)) (length (a .signature .now))
+    (sym (passed .before .verdict-refusal .ensures) ∙ passed .if1 .left) in
+    let invertible = all-invertible-met (a .set) (a .abq .now) (c .before .before .all-invertible .ensures) (c .enum-told .given .1) in
+    ((bounds (a .set) (f .allowed), f .public, f .abq, invertible), (f .target, f .key, f .signature))
 
 returns-3 : tie.Need-returns-3
 returns-3 c =
-    let a = c .before .before .before .before .before .before .before .before .before .before .before .before .args in
-    compared (a .set) (a .public .now) (a .abq .now) (a .target .now) (a .key .now) (a .signature .now) (accepted (a .set) (a .public .now) (a .abq .now) (a .key .now) (a .signature .now) (a .target .now)) (c .before .before .before .before .before .before .verdict-refusal .ensures) (c .before .before .before .before .before .if1 .left) (c .before .before .before .before .all-invertible .ensures) (c .before .before .enum-told .given .1) (sym (c .if2 .taken) ∙ c .before .accepts .ensures)
+    let passed = c .before .before .before .before .before in
+    let begin = passed .before .before .before .before .before .before .before in
+    let a = begin .args in
+    compared (a .set) (a .public .now) (a .abq .now) (a .target .now) (a .key .now) (a .signature .now) (compares begin)
+    (passed .before .verdict-refusal .ensures) (passed .if1 .left) (c .before .before .before .before .all-invertible .ensures) (c .before .before .enum-told .given .1)
+    (sym (c .if2 .taken) ∙ c .before .accepts .ensures)
 
 returns-4 : tie.Need-returns-4
 returns-4 c =
-    let a = c .before .before .before .before .before .before .before .before .before .before .before .before .args in
-    compared (a .set) (a .public .now) (a .abq .now) (a .target .now) (a .key .now) (a .signature .now) (accepted (a .set) (a .public .now) (a .abq .now) (a .key .now) (a .signature .now) (a .target .now)) (c .before .before .before .before .before .before .verdict-refusal .ensures) (c .before .before .before .before .before .if1 .left) (c .before .before .before .before .all-invertible .ensures) (c .before .before .enum-told .given .1) (sym (c .if2 .left) ∙ c .before .accepts .ensures)
+    let passed = c .before .before .before .before .before in
+    let begin = passed .before .before .before .before .before .before .before in
+    let a = begin .args in
+    compared (a .set) (a .public .now) (a .abq .now) (a .target .now) (a .key .now) (a .signature .now) (compares begin)
+    (passed .before .verdict-refusal .ensures) (passed .if1 .left) (c .before .before .before .before .all-invertible .ensures) (c .before .before .enum-told .given .1)
+    (sym (c .if2 .left) ∙ c .before .accepts .ensures)
 
 pub verify-spec : {M : Type 1} → statement M
 verify-spec =
