@@ -3,7 +3,7 @@
 use mathlib.Core.Path.{_≡_, sym, subst}
 use mathlib.Core.List.{List}
 use Prim.Native.Nat.{ℕ, _+_, _*_, _/_, _%_, _<_, _≤_}
-use native.Mathlib.Nat.{mul-le-mul, mul-le-mul-right}
+use native.Mathlib.Nat.{mul-le-mul-right}
 use native.Mathlib.Decide.{decLt}
 use native.Mathlib.Omega.{arith}
 use lib.ListN.{length, getD}
@@ -65,32 +65,3 @@ built-area {set} {public} {abq} {private} {vinegar} {target} {g} {n} b e fits h 
 pub solving-from : {set : Set} {public abq private vinegar target g h : List ℕ} {n : ℕ} {r : Outcome} → 0 < set .l → n ≡ unknowns set
     → Built set public abq private vinegar target g → Eliminated g n r h → Solving set public abq private vinegar target r h
 solving-from {g = g} {h = h} {r = r} p e b f = solving p b (subst (λ k. Eliminated g k r h) e f)
-
--- ---- rooms of the local tables
-
-pub kept-room : {a k n : ℕ} → a ≤ k → n ≡ k → a ≤ n
-kept-room h e = omega arith
-
-module _ {set : Set} (b : Bounds set) where
-  -- the powers of S
-  pub powers-room : set .l * set .l * set .l ≤ 64
-  powers-room = omega (arith, b .products .lll)
-
-  -- T12: v·l rows of o·l bytes
-  pub private-room : set .v * set .l * (set .o * set .l) ≤ 12000
-  private-room = omega (arith, b .products .voll)
-
-  -- the powers of S times the vinegar: v·l rows of l² bytes
-  pub vinegar-room : set .v * set .l * (set .l * set .l) ≤ 4800
-  vinegar-room = omega (arith, mul-le-mul (b .limits .v-most) (b .products .lll))
-
-  -- the left sums: o·l² rows of o·l bytes; the right sums: o·(o·l) rows of l² bytes
-  pub left-room : set .o * (set .l * set .l) * (set .o * set .l) ≤ 12800
-  left-room = let ol = b .products .ol in omega (arith, mul-le-mul (b .limits .row) ol)
-
-  pub right-room : set .o * (set .o * set .l) * (set .l * set .l) ≤ 12800
-  right-room = omega (arith, left-room)
-
-  -- the sums by powers: o·l² rows of l² bytes
-  pub sums-room : set .o * (set .l * set .l) * (set .l * set .l) ≤ 2560
-  sums-room = omega (arith, b .products .ollll)

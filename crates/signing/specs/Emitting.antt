@@ -56,6 +56,30 @@ pub system-within : (set : Set) {n m : ℕ} → n ≡ m → m ≡ workBytes set 
 unfolding workBytes
 system-within set e f = omega arith
 
+-- ---- where the parts of the list of U stand
+
+-- what was computed stands for its definition
+pub counted : {n k m : ℕ} → n ≡ k → k ≤ m → n ≤ m
+counted e h = omega arith
+
+pub counted-from-start : {n k m : ℕ} → n ≡ k → k ≤ m → 0 + n ≤ m
+counted-from-start e h = omega arith
+
+module _ {set : Set} (b : Bounds set) {u : ℕ} where
+  -- the vinegar is the first part of a signature's elements
+  pub vinegar-first : {n : ℕ} → n ≡ vinegarCount set → signatureCount set ≤ u → n ≤ u
+  vinegar-first e h = omega (arith, e, h, b .counts .vinegar, b .counts .signature)
+
+  pub vinegar-rows : signatureCount set ≤ u → set .v * set .l * set .l ≤ u
+  vinegar-rows h = omega (arith, h, b .counts .signature)
+
+  pub oil-rows : unknowns set ≤ u → set .o * set .l * set .l ≤ u
+  oil-rows h = omega (arith, h, b .counts .unknowns)
+
+  -- the oil is the last part
+  pub oil-last : {n m : ℕ} → n ≡ vinegarCount set → m ≡ unknowns set → signatureCount set ≤ u → n + m ≤ u
+  oil-last e f h = omega (arith, e, f, h, b .counts .vinegar, b .counts .unknowns, b .counts .signature)
+
 -- ---- the list of U
 
 module _ {set : Set} {private vinegar t : List ℕ} (oil : List ℕ) (table : Holds (set .l) (set .o * set .l) (set .v) (set .o) t (T12 set private)) where

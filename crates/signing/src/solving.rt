@@ -13,12 +13,10 @@ ghost use Rattle.tables.specs.Table.{Holds};
 ghost use Rattle.signing.specs.Solving.{Built, Solving};
 use linear::Outcome;
 use sets::Set;
+use tables::POWERS;
+use tables::PRIVATE;
 
-// Room for the powers of S, for T12, for the vinegar, for the powers of S times the vinegar, for the left or the right sums, and for the power sums.
-const POWERS: usize = 64;
-
-const MOST_PRIVATE: usize = 12000;
-
+// Room for the vinegar, for the powers of S times the vinegar, for the left or the right sums, and for the sums by powers (tables' specs/Rooms.antt).
 const MOST_VINEGAR: usize = 1200;
 
 const MOST_POWERS: usize = 4800;
@@ -56,7 +54,7 @@ fn build_system(
 {
     let mut sp = [0u8; POWERS];
     tables::powers_of_s(&mut sp, set.l);
-    let mut t = [0u8; MOST_PRIVATE];
+    let mut t = [0u8; PRIVATE];
     tables::private_table(&mut t, set, private, &sp);
     let mut x = [0u8; MOST_POWERS];
     load_vinegar(&mut x, set, vinegar, &sp);

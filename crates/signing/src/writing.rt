@@ -14,12 +14,10 @@ ghost use Rattle.linear.specs.System.{at};
 ghost use Rattle.signing.specs.Signs.{signatureWith};
 ghost use Rattle.signing.specs.Writing.{oilRow, oilOf, SolutionList};
 use sets::Set;
+use tables::POWERS;
+use tables::PRIVATE;
 
-// Room for the powers of S, for T12, for the unknowns, and for the elements of a signature and a spare half.
-const POWERS: usize = 64;
-
-const MOST_PRIVATE: usize = 12000;
-
+// Room for the unknowns, and for the elements of a signature and a spare half.
 const MOST_UNKNOWNS: usize = 160;
 
 const MOST_ELEMENTS: usize = 1361;
@@ -62,7 +60,7 @@ fn solution_list(u: &mut [u8], set: Set, private: &[u8], vinegar: &[u8], oil: &[
 {
     let mut sp = [0u8; POWERS];
     tables::powers_of_s(&mut sp, set.l);
-    let mut t = [0u8; MOST_PRIVATE];
+    let mut t = [0u8; PRIVATE];
     tables::private_table(&mut t, set, private, &sp);
     let vinegar_elements = sets::vinegar_count(set);
     let oil_elements = sets::unknowns(set);

@@ -1,4 +1,5 @@
 pub mod RowsJoin
+pub mod Rooms
 pub mod Table
 pub mod Gains
 pub mod Entries

@@ -13,6 +13,11 @@ ghost use Rattle.rows.specs.Plus.{Plus};
 ghost use Rattle.tables.specs.Gains.{rowStart, blocksRow, productRow};
 ghost use Rattle.tables.specs.Unpacked.{Unpacked};
 
+// How many bytes a caller's table takes for the largest set: the powers of S, and T12 (specs/Rooms.antt).
+pub const POWERS: usize = 64;
+
+pub const PRIVATE: usize = 12000;
+
 // The number of the first element of row r of a stream's block.
 fn row_start(l: usize, number: usize, r: usize) -> usize
     requires { ⌜ (r < l) × ((number + 1) * (l * l) < 2 ^ 64) ⌝ }

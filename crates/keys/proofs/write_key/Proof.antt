@@ -2,6 +2,7 @@
 -- Nothing is asked of what the tables hold before.
 use mathlib.Core.Path.{_∙_}
 use Rattle.packing.specs.Packing.{Bytes}
+use Rattle.tables.specs.Rooms.{kept-room, powers-room, private-room, key-room}
 use Rattle.keys.specs.Elements.{key-whole}
 use borrow.Author.Needs.{needs}
 use native.Mathlib.Omega.{arith}
@@ -14,7 +15,7 @@ slice-aggregate-powers-of-s c = search needs
 powers-of-s-requires : tie.Need-powers-of-s-requires
 powers-of-s-requires c κs =
     let begin = c .before .before .before .before in
-    omega (arith, begin .pre .0 .limits, begin .pre .0 .products .lll)
+    (omega (arith, begin .pre .0 .limits .l-most), powers-room (begin .pre .0))
 
 slice-aggregate-private-table : tie.Need-slice-aggregate-private-table
 slice-aggregate-private-table c = search needs
@@ -25,8 +26,9 @@ slice-aggregate-private-table-2 c = search needs
 private-table-requires : tie.Need-private-table-requires
 private-table-requires c κs =
     let begin = c .before .before .before .before .before .before .before .before in
+    let b = begin .pre .0 in
     let powers-of-s = c .before .before .before .powers-of-s in
-    (begin .pre .0, ((begin .pre .1 .1, omega (arith, begin .pre .0 .products .voll), omega (arith, powers-of-s .ensures .long, begin .pre .0 .products .lll)), powers-of-s .ensures .holds))
+    (b, ((begin .pre .1 .1, private-room b, kept-room (powers-room b) (powers-of-s .ensures .long)), powers-of-s .ensures .holds))
 
 slice-aggregate-write-elements : tie.Need-slice-aggregate-write-elements
 slice-aggregate-write-elements c = search needs
@@ -40,7 +42,9 @@ slice-aggregate-write-elements-3 c = search needs
 write-elements-requires : tie.Need-write-elements-requires
 write-elements-requires c κs =
     let begin = c .before .before .before .before .before .before .before .before .before .before .before .before .before .before in
-    (begin .pre .0, ((begin .pre .1 .0, begin .pre .1 .2, omega (arith, c .before .before .before .before .before .private-table .ensures .long, begin .pre .0 .products .voll)), (omega (arith, begin .pre .0 .products .voll), omega (arith, begin .pre .0 .products .ooll))))
+    let b = begin .pre .0 in
+    let t = kept-room (private-room b) (c .before .before .before .before .before .private-table .ensures .long) in
+    (b, ((begin .pre .1 .0, begin .pre .1 .2, t), (private-room b, key-room b)))
 
 clear-spare-requires : tie.Need-clear-spare-requires
 clear-spare-requires c κs =

@@ -1,7 +1,8 @@
 -- `signing::build_system` meets its contract: each table is filled from the one before, and the built rows are page 01's system (`system-holds`). Rests on Building.
 use Rattle.scheme.specs.Streams.{vinegarOf}
 use Rattle.system.specs.System.{system-holds}
-use Rattle.signing.specs.Building.{built-from, system-room, kept-room, powers-room, private-room, vinegar-room, left-room, right-room, sums-room}
+use Rattle.tables.specs.Rooms.{kept-room, powers-room, private-room, vinegar-room, left-room, right-room, sums-room}
+use Rattle.signing.specs.Building.{built-from, system-room}
 use native.Mathlib.Omega.{arith}
 use borrow.Author.Needs.{needs}
 use Rattle.signing.proofs.solving.build_system.Statement.{statement}

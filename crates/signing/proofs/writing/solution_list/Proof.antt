@@ -1,5 +1,6 @@
 -- `signing::solution_list` meets its contract. T12 as a table, the vinegar unpacked, plus T12 times the oil, then the oil (`solution-from`).
-use Rattle.signing.specs.Emitting.{vinegar-within, solution-from}
+use Rattle.tables.specs.Rooms.{kept-room, powers-room, private-room}
+use Rattle.signing.specs.Emitting.{vinegar-within, counted, counted-from-start, vinegar-first, vinegar-rows, oil-rows, oil-last, solution-from}
 use borrow.Author.Needs.{needs}
 use native.Mathlib.Omega.{arith}
 use Rattle.signing.proofs.writing.solution_list.Statement.{statement}
@@ -9,7 +10,9 @@ slice-aggregate-powers-of-s : tie.Need-slice-aggregate-powers-of-s
 slice-aggregate-powers-of-s c = search needs
 
 powers-of-s-requires : tie.Need-powers-of-s-requires
-powers-of-s-requires c κs = search needs
+powers-of-s-requires c κs =
+    let b = c .before .before .before .before .before .pre .0 in
+    (omega (arith, b .limits .l-most), powers-room b)
 
 slice-aggregate-private-table : tie.Need-slice-aggregate-private-table
 slice-aggregate-private-table c = search needs
@@ -21,7 +24,8 @@ private-table-requires : tie.Need-private-table-requires
 private-table-requires c κs =
     let s = c .before .before .before .before .before .before .before .before .before in
     let b = s .pre .0 in
-    (b, ((s .pre .1 .0 .0, omega (arith, b .products .voll), omega (arith, b .products .lll, c .before .before .before .powers-of-s .kept .0)), c .before .before .before .powers-of-s .ensures .holds))
+    let sp = c .before .before .before .powers-of-s in
+    (b, ((s .pre .1 .0 .0, private-room b, kept-room (powers-room b) (sp .kept .0)), sp .ensures .holds))
 
 vinegar-count-requires : tie.Need-vinegar-count-requires
 vinegar-count-requires c κs = search needs
@@ -32,8 +36,9 @@ unknowns-requires c κs = search needs
 unpack-all-requires : tie.Need-unpack-all-requires
 unpack-all-requires c κs =
     let s = c .before .before .before .before .before .before .before .before .before .before .before .before .before .before in
+    let b = s .pre .0 in
     let n = c .before .before .vinegar-count .ensures in
-    (omega (arith, n, s .pre .0 .counts .vinegar, s .pre .0 .counts .signature, s .pre .1 .1 .0 .0), omega (arith, n, vinegar-within (s .args .set) (s .pre .1 .0 .1)))
+    (vinegar-first b n (s .pre .1 .1 .0 .0), counted n (vinegar-within (s .args .set) (s .pre .1 .0 .1)))
 
 slice-aggregate-add-oil : tie.Need-slice-aggregate-add-oil
 slice-aggregate-add-oil c = search needs
@@ -42,7 +47,8 @@ add-oil-requires : tie.Need-add-oil-requires
 add-oil-requires c κs =
     let s = c .before .before .before .before .before .before .before .before .before .before .before .before .before .before .before .before .before .before .before in
     let b = s .pre .0 in
-    (b, (omega (arith, b .counts .signature, s .pre .1 .1 .0 .0, c .before .before .before .before .unpack-all .kept .0), (omega (arith, b .products .voll, c .before .before .before .before .before .before .before .before .before .private-table .kept .0), omega (arith, b .counts .unknowns, s .pre .1 .1 .0 .1))))
+    let rows = kept-room (vinegar-rows b (s .pre .1 .1 .0 .0)) (c .before .before .before .before .unpack-all .kept .0) in
+    (b, (rows, (kept-room (private-room b) (c .before .before .before .before .before .before .before .before .before .private-table .kept .0), oil-rows b (s .pre .1 .1 .0 .1))))
 
 add-scaled-requires : tie.Need-add-scaled-requires
 add-scaled-requires c κs =
@@ -50,15 +56,17 @@ add-scaled-requires c κs =
     let b = s .pre .0 in
     let n = c .before .before .before .before .before .before .before .before .before .before .before .vinegar-count .ensures in
     let m = c .before .before .before .before .before .before .before .before .before .before .unknowns .ensures in
-    (omega (arith, n, m, b .counts .vinegar, b .counts .unknowns, b .counts .signature, s .pre .1 .1 .0 .0, c .before .before .before .before .before .before .before .before .unpack-all .kept .0, c .before .before .before .add-oil .kept .0), omega (arith, m, s .pre .1 .1 .0 .1))
+    let room = kept-room (kept-room (s .pre .1 .1 .0 .0) (c .before .before .before .before .before .before .before .before .unpack-all .kept .0)) (c .before .before .before .add-oil .kept .0) in
+    (oil-last b n m room, counted-from-start m (s .pre .1 .1 .0 .1))
 
 same-length : tie.Need-same-length
 same-length c = search needs
 
 returns : tie.Need-returns
 returns c =
-    solution-from (c .before .before .before .before .before .before .before .before .before .before .before .before .before .before .before .before .before .before .before .before .before .before .before .before .before .before .args .oil .now) (c .before .before .before .before .before .before .before .before .before .before .before .before .before .before .before .before .private-table .ensures .holds) (c .before .before .before .before .before .before .before .before .before .before .before .before .before .before .vinegar-count .ensures) (c .before .before .before .before .before .before .before .before .before .before .before .before .before .unknowns .ensures) (c .before .before .before .before .before .before .before .before .before .before .before .before .before .before .before .before .before .before .before .before .before .before .before .before .before .before .pre .1 .1 .1) (c .before .before .before .before .before .before .before .before .before .before .before .unpack-all .ensures)
-    (c .before .before .before .before .before .before .add-oil .ensures) (c .before .before .add-scaled .ensures)
+    let s = c .before .before .before .before .before .before .before .before .before .before .before .before .before .before .before .before .before .before .before .before .before .before .before .before .before .before in
+    solution-from (s .args .oil .now) (c .before .before .before .before .before .before .before .before .before .before .before .before .before .before .before .before .private-table .ensures .holds) (c .before .before .before .before .before .before .before .before .before .before .before .before .before .before .vinegar-count .ensures) (c .before .before .before .before .before .before .before .before .before .before .before .before .before .unknowns .ensures) (s .pre .1 .1 .1)
+    (c .before .before .before .before .before .before .before .before .before .before .before .unpack-all .ensures) (c .before .before .before .before .before .before .add-oil .ensures) (c .before .before .add-scaled .ensures)
 
 pub solution-list-spec : {M : Type 1} → statement M
 solution-list-spec =
