@@ -4,4 +4,5 @@ pub mod Fill
 pub mod Segment
 pub mod Place
 pub mod Answers
+pub mod Lowest
 pub mod Outcome

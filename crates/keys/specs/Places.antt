@@ -1,38 +1,14 @@
--- Where key generation reads and writes: block numbers of the public stream, rows of the tables, elements of the key. Every index lies within its buffer
+-- Where key generation reads and writes: rows of the tables, elements of the key. Every index lies within its buffer
 -- and no product wraps. Rests on sets' bounds and ground's places.
 use mathlib.Core.Path.{_≡_}
 use Prim.Native.Nat.{ℕ, _+_, _*_, _/_, _%_, _<_, _≤_}
-use native.Mathlib.Nat.{mul-le-mul-right, mul-pos, div-lt-iff-lt-mul, mod-lt}
+use native.Mathlib.Nat.{mul-pos, div-lt-iff-lt-mul, mod-lt}
 use native.Mathlib.Omega.{arith}
 use lib.Arith.{digits-lt}
 use Rattle.ground.specs.Place.{row-fits}
 use Rattle.sets.specs.declared.Set.{Set}
-use Rattle.sets.specs.Sets.{publicCount, publicBytes, keyCount, keyBytes}
+use Rattle.sets.specs.Sets.{keyCount, keyBytes}
 use Rattle.sets.specs.Bounds.{Bounds}
-
--- ---- the public stream
-
--- n is a block's number, and count blocks from it on stand in the public stream
-pub record Starts (set : Set) (number count n : ℕ) : Type 0 where
-  pub is : n ≡ number
-  pub within : (n + count) * (set .l * set .l) ≤ publicCount set
-
-pub starts : (set : Set) {number count n : ℕ} → n ≡ number → n + count ≤ set .o * (set .v * set .v + 2 * set .v * set .o) → Starts set number count n
-unfolding publicCount
-starts set e h = record { is = e; within = mul-le-mul-right (set .l * set .l) h }
-
--- row (i, j) of o by a rows of b blocks
-pub record NumberTurn (o a b i j : ℕ) : Type 0 where
-  pub row : i * a + j + 1 ≤ o * a
-  pub number : (i * a + j) * b + b ≤ o * a * b
-
-pub number-turn : {o a i j : ℕ} (b : ℕ) → i < o → j < a → NumberTurn o a b i j
-number-turn b hi hj = let row = digits-lt hi hj in record { row = omega (arith, row); number = row-fits b row }
-
--- the public stream holds all blocks
-pub public-within : (set : Set) {n : ℕ} → n ≡ publicBytes set → publicCount set ≤ 2 * n
-unfolding publicBytes
-public-within set e = omega arith
 
 -- ---- the tables
 

@@ -1,7 +1,6 @@
 // Key generation (page 01, "Keys, signing, verdict"; document 000, Algorithm 9): P22 = T12ᵗ·F12 + P21·T12 of every i, packed.
 // `generate` is the public function. What it promises is `Generates` of specs/Generates.antt.
 mod elements;
-mod numbers;
 mod parts;
 
 ghost use mathlib.Core.Path.{_≡_};
@@ -25,7 +24,7 @@ const ONE_P22: usize = 5280;
 pub fn generate(set: Set, public: &[u8], private: &[u8], key: &mut [u8]) -> Answer
     ensures { λ r. ⌜ Generates set (now (public .entry)) (now (private .entry)) (now (key .entry)) r (now (key .exit)) ⌝ }
 {
-    let refusal = sets::keygen_refusal(set, public.len(), private.len(), key.len());
+    let refusal = refusals::keygen_refusal(set, public.len(), private.len(), key.len());
     if refusal == 0 {
         write_key(key, set, public, private);
     }

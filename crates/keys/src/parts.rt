@@ -7,9 +7,6 @@ ghost use Rattle.sets.specs.Bounds.{Bounds};
 ghost use Rattle.sets.specs.Sets.{publicBytes};
 ghost use Rattle.tables.specs.Table.{Filled};
 ghost use Rattle.keys.specs.Parts.{blocks, f12Row, f12Of, p22Row, p22Of};
-use crate::numbers::p11_number;
-use crate::numbers::p12_number;
-use crate::numbers::p21_number;
 use sets::Set;
 
 // Row y of f gains row y of F12, from the table t of T12: row y % l of block row y / l.
@@ -22,8 +19,8 @@ fn f12_row(f: &mut [u8], set: Set, public: &[u8], t: &[u8], i: usize, y: usize)
     let l = set.l;
     let w = set.o * l;
     let at = y * w;
-    let p12 = p12_number(set, i, y / l);
-    let p11 = p11_number(set, i, y / l);
+    let p12 = tables::p12_number(set, i, y / l);
+    let p11 = tables::p11_number(set, i, y / l);
     tables::add_block_row(f, at, public, p12, l, y % l, set.o);
     tables::add_product_row(f, at, w, public, p11, l, y % l, set.v, t, 0);
 }
@@ -55,7 +52,7 @@ fn p22_row(k: &mut [u8], set: Set, public: &[u8], t: &[u8], f: &[u8], i: usize, 
     let w = set.o * l;
     let at = y * w;
     let count = set.v * l;
-    let p21 = p21_number(set, i, y / l);
+    let p21 = tables::p21_number(set, i, y / l);
     rows::add_columns(k, at, w, t, y, w, count, f, 0);
     tables::add_product_row(k, at, w, public, p21, l, y % l, set.v, t, 0);
 }

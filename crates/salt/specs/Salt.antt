@@ -12,8 +12,8 @@ use Rattle.ground.specs.Pick.{pick}
 use Rattle.ground.specs.Answers.{lowest}
 use Rattle.sets.specs.declared.Set.{Set}
 use Rattle.sets.specs.Sets.{saltBytes, signatureBytes}
-use Rattle.sets.specs.Fits.{salt-fits}
-use Rattle.sets.specs.Rules.{saltRules}
+use Rattle.refusals.specs.Fits.{salt-fits}
+use Rattle.refusals.specs.Rules.{saltRules}
 
 -- the number of the refusal, or 0
 unfoldable pub saltRefusal : Set → List ℕ → ℕ

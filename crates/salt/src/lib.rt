@@ -13,7 +13,7 @@ pub fn salt(set: Set, signature: &[u8]) -> &[u8]
     ensures place { λ r. ⌜ (r .ptr .0 ≡ signature .entry .ptr .0) × (r .ptr .1 ≡ signature .entry .ptr .1 + saltStart set (now (signature .entry))) ⌝ }
 {
     let n = signature.len();
-    if sets::salt_refusal(set, n) == 0 {
+    if refusals::salt_refusal(set, n) == 0 {
         let start = n - SALT_BYTES;
         &signature[start..]
     } else {
@@ -25,5 +25,5 @@ pub fn salt(set: Set, signature: &[u8]) -> &[u8]
 pub fn salt_status(set: Set, signature: &[u8]) -> Answer
     ensures { λ r. ⌜ r ≡ answerOf (saltRefusal set (now (signature .entry))) ⌝ }
 {
-    ground::answer_of(sets::salt_refusal(set, signature.len()))
+    ground::answer_of(refusals::salt_refusal(set, signature.len()))
 }

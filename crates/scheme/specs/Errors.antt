@@ -14,7 +14,7 @@ use Rattle.field.specs.Field.{add, mul, times}
 use Rattle.packing.specs.Packing.{element, half, packedBytes, byteOf, packed}
 use Rattle.sets.specs.declared.Set.{Set}
 use Rattle.sets.specs.Sets.{allowedSet, terms, variables, publicCount, abqCount, targetCount, keyCount, signatureCount, publicBytes, abqBytes, targetBytes, keyBytes, signatureBytes}
-use Rattle.sets.specs.Rules.{verdictRules}
+use Rattle.refusals.specs.Rules.{verdictRules}
 use Rattle.matrix.specs.Matrix.{Matrix, addM, mulM, transpose, scaleM}
 use Rattle.matrix.specs.MatrixRing.{matrices}
 use Rattle.matrix.specs.RingElements.{S, oneM, coefficient}

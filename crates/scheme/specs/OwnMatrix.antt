@@ -23,7 +23,7 @@ use Rattle.field.specs.Laws as Field
 use Rattle.packing.specs.Packing.{packedBytes}
 use Rattle.sets.specs.declared.Set.{Set}
 use Rattle.sets.specs.Sets.{leastL, mostL, allowedSet, terms, variables, publicCount, abqCount, targetCount, keyCount, signatureCount, publicBytes, abqBytes, targetBytes, keyBytes, signatureBytes}
-use Rattle.sets.specs.Rules.{verdictRules}
+use Rattle.refusals.specs.Rules.{verdictRules}
 use Rattle.sets.specs.Bounds.{Limits, limits}
 use Rattle.matrix.specs.Matrix.{Matrix, zeroM, addM, mulM, transpose, scaleM}
 use Rattle.matrix.specs.MatrixRing.{matrices}

@@ -15,7 +15,7 @@ use Rattle.algebra.specs.Map.{value-zero}
 use Rattle.packing.specs.Packing.{element}
 use Rattle.sets.specs.declared.Set.{Set}
 use Rattle.sets.specs.Sets.{terms, variables, targetCount, signatureCount}
-use Rattle.sets.specs.Rules.{verdictRules, keygenRules}
+use Rattle.refusals.specs.Rules.{verdictRules, keygenRules}
 use Rattle.matrix.specs.Matrix.{Matrix, zeroM}
 use Rattle.matrix.specs.MatrixRing.{matrices}
 use Rattle.matrix.specs.Same.{Same, same-refl, same-trans, same-equal}

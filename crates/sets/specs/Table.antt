@@ -1,10 +1,9 @@
--- Page 01's own table and its cases of allowed and refused sets and lengths: each computed from the definitions.
--- Rests on Rules.
+-- Page 01's own table and its cases of allowed and refused sets: each computed from the definitions.
+-- Rests on Sets.
 use mathlib.Core.Path.{_≡_, refl}
 use mathlib.Core.Bool.{true, false}
 use mathlib.Core.List.{List, [], _∷_}
 use Prim.Native.Nat.{ℕ}
-use Rattle.ground.specs.Answers.{lowest}
 use Rattle.sets.specs.declared.Set.{Set}
 use Rattle.sets.specs.Sets.{
   allowedSet,
@@ -26,7 +25,6 @@ use Rattle.sets.specs.Sets.{
   signatureBytes,
   workBytes,
 }
-use Rattle.sets.specs.Rules.{saltRules}
 
 abbrev pub setOf : ℕ → ℕ → ℕ → Set
 setOf v o l = record { v = v; o = o; l = l }
@@ -60,13 +58,3 @@ pub allowed-cases : allowedSet (setOf 60 10 4)
     ≡ true ∷ false ∷ false ∷ false ∷ false ∷ false ∷ false ∷ false ∷ []
 unfolding allowedSet
 allowed-cases = refl
-
--- a signature of 247 or 249 bytes for (24,5,4) is 18
-pub salt-cases : lowest (saltRules (setOf 24 5 4) 247)
-    ∷ lowest (saltRules (setOf 24 5 4) 248)
-    ∷ lowest (saltRules (setOf 24 5 4) 249)
-    ∷ lowest (saltRules (setOf 33 33 4) 248)
-    ∷ []
-    ≡ 18 ∷ 0 ∷ 18 ∷ 10 ∷ []
-unfolding lowest saltRules allowedSet signatureBytes signatureCount
-salt-cases = refl

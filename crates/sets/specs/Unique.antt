@@ -1,10 +1,9 @@
 -- No second answer meets a public function's contract: each contract is an equation with a definition.
--- Rests on Rules, and on Outcome of the crate ground.
+-- Rests on Sets, and on Outcome of the crate ground.
 use mathlib.Core.Path.{_≡_}
 use mathlib.Core.Bool.{Bool}
 use Prim.Native.Nat.{ℕ}
 use Rattle.ground.specs.Pick.{pick}
-use Rattle.ground.specs.Answers.{lowest}
 use Rattle.ground.specs.Outcome.{unique-equation}
 use Rattle.sets.specs.declared.Set.{Set}
 use Rattle.sets.specs.Sets.{
@@ -18,7 +17,6 @@ use Rattle.sets.specs.Sets.{
   signatureBytes,
   workBytes,
 }
-use Rattle.sets.specs.Rules.{keygenRules, signRules, verdictRules, saltRules}
 
 pub unique-allowed : (s : Set) {r r′ : Bool} → r ≡ allowedSet s → r′ ≡ allowedSet s → r ≡ r′
 unique-allowed s = unique-equation
@@ -49,18 +47,3 @@ module _ (s : Set) {r r′ : ℕ} where
 
   pub unique-work-bytes : r ≡ pick (allowedSet s) (workBytes s) 0 → r′ ≡ pick (allowedSet s) (workBytes s) 0 → r ≡ r′
   unique-work-bytes = unique-equation
-
--- each refusal, for the lengths p public, a ABQ, t private, x vinegar, y target, h salt, w work area, k key, g signature, o output
-
-module _ (s : Set) {r r′ : ℕ} where
-  pub unique-keygen-refusal : (p t o : ℕ) → r ≡ lowest (keygenRules s p t o) → r′ ≡ lowest (keygenRules s p t o) → r ≡ r′
-  unique-keygen-refusal p t o = unique-equation
-
-  pub unique-sign-refusal : (p a t x y h w o : ℕ) → r ≡ lowest (signRules s p a t x y h w o) → r′ ≡ lowest (signRules s p a t x y h w o) → r ≡ r′
-  unique-sign-refusal p a t x y h w o = unique-equation
-
-  pub unique-verdict-refusal : (p a y k g : ℕ) → r ≡ lowest (verdictRules s p a y k g) → r′ ≡ lowest (verdictRules s p a y k g) → r ≡ r′
-  unique-verdict-refusal p a y k g = unique-equation
-
-  pub unique-salt-refusal : (g : ℕ) → r ≡ lowest (saltRules s g) → r′ ≡ lowest (saltRules s g) → r ≡ r′
-  unique-salt-refusal g = unique-equation

@@ -1,8 +1,7 @@
-// Parameter sets, the exact length of every stream and buffer, and the refusal numbers that follow from them.
-// `allowed` decides page 01's limits; `length` has a function for each length, `refusal` one for each operation.
+// Parameter sets, and the exact length of every stream and buffer.
+// `allowed` decides page 01's limits; `count` has the numbers of elements, `length` a function for each length.
 mod count;
 mod length;
-mod refusal;
 
 pub use count::abq_count;
 pub use count::key_count;
@@ -21,10 +20,6 @@ pub use length::signature_bytes;
 pub use length::target_bytes;
 pub use length::vinegar_bytes;
 pub use length::work_bytes;
-pub use refusal::keygen_refusal;
-pub use refusal::salt_refusal;
-pub use refusal::sign_refusal;
-pub use refusal::verdict_refusal;
 ghost use mathlib.Core.Path.{_≡_};
 ghost use Rattle.sets.specs.Sets.{allowedSet, fromTo};
 

@@ -52,7 +52,7 @@ fn lengths(s: Set) {
 // What key generation answers for buffers of the set's own lengths: 0, or 10 where the set is not allowed.
 fn refusal(s: Set) {
     name(s);
-    let answer = sets::keygen_refusal(
+    let answer = refusals::keygen_refusal(
         s,
         sets::public_bytes(s),
         sets::private_bytes(s),

@@ -12,8 +12,8 @@ use Rattle.ground.specs.Answers.{lowest, unless, answerOf, numberOf, lowest-app
 use Rattle.ground.specs.declared.Answer.{Answer}
 use Rattle.ground.specs.declared.Answer.the-variants.{Done, Refused}
 use Rattle.sets.specs.declared.Set.{Set}
-use Rattle.sets.specs.Rules.{signRules}
-use Rattle.sets.specs.Fits.{SignFits, sign-met, sign-fits}
+use Rattle.refusals.specs.Rules.{signRules}
+use Rattle.refusals.specs.Fits.{SignFits, sign-met, sign-fits}
 use Rattle.scheme.specs.Maps.{allInvertible}
 use Rattle.signing.specs.Signs.{signRefusals}
 

@@ -10,7 +10,7 @@ use Rattle.ground.specs.Fill.{tab}
 use Rattle.packing.specs.Packing.{packed}
 use Rattle.sets.specs.declared.Set.{Set}
 use Rattle.sets.specs.Sets.{variables, signatureCount}
-use Rattle.sets.specs.Rules.{signRules}
+use Rattle.refusals.specs.Rules.{signRules}
 use Rattle.matrix.specs.Matrix.{Matrix}
 use Rattle.matrix.specs.Same.{Same}
 use Rattle.scheme.specs.Streams.{vinegarOf, signatureOf}

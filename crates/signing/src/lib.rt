@@ -67,7 +67,7 @@ pub fn sign(
     ensures { λ r. ⌜ Signs set (now (public .entry)) (now (abq .entry)) (now (private .entry)) (now (vinegar .entry)) (now (target .entry)) (now (salt .entry))
         (now (work .entry)) (now (output .entry)) r (now (work .exit)) (now (output .exit)) ⌝ }
 {
-    let refusal = sets::sign_refusal(
+    let refusal = refusals::sign_refusal(
         set,
         public.len(),
         abq.len(),

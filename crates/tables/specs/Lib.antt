@@ -1,5 +1,6 @@
 pub mod RowsJoin
 pub mod Rooms
+pub mod Numbers
 pub mod Table
 pub mod Gains
 pub mod Entries

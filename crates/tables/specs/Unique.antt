@@ -1,6 +1,6 @@
 -- No second outcome meets a contract of this crate: every lent buffer is fixed by what went in.
 -- Rests on rows' Plus, on Filled and on Unpacked.
-use mathlib.Core.Path.{_≡_, refl}
+use mathlib.Core.Path.{_≡_, refl, sym, _∙_}
 use mathlib.Core.List.{List}
 use Prim.Native.Nat.{ℕ, _*_}
 use native.Mathlib.Omega.{arith}
@@ -9,9 +9,13 @@ use Rattle.matrix.specs.RingElements.{powerS}
 use Rattle.scheme.specs.Streams.{T12}
 use Rattle.scheme.specs.Regroup.{powerTimes}
 use Rattle.rows.specs.Plus.{Plus, plus-unique}
+use Rattle.tables.specs.Numbers.{Starts}
 use Rattle.tables.specs.Table.{Filled, filled-unique}
 use Rattle.tables.specs.Gains.{blocksRow, productRow}
 use Rattle.tables.specs.Unpacked.{Unpacked, unpacked-unique, listOf}
+
+pub unique-number-of-row : {blocks number count n m : ℕ} → Starts blocks number count n → Starts blocks number count m → n ≡ m
+unique-number-of-row a b = a .is ∙ sym (b .is)
 
 pub unique-add-block-row : (d stream : List ℕ) (at number l r count : ℕ) {t u : List ℕ} → Plus d at (count * l) (blocksRow l stream number r) t
     → Plus d at (count * l) (blocksRow l stream number r) u → t ≡ u

@@ -1,8 +1,13 @@
 // Tables of bytes that key generation, the verdict and signing share: the powers of S, the private matrix T12, the powers of S times a list of matrices,
 // and rows of products of a stream's blocks with such a table. A table with rows of w bytes holds block (j, k) at rows j·l .. and columns k·l .. .
+mod numbers;
 mod powers;
 mod private;
 
+pub use numbers::p11_number;
+pub use numbers::p12_number;
+pub use numbers::p21_number;
+pub use numbers::p22_number;
 pub use powers::power_table;
 pub use powers::powers_of_s;
 pub use private::private_table;

@@ -15,8 +15,8 @@ use Rattle.ground.specs.declared.Answer.{Answer}
 use Rattle.ground.specs.declared.Answer.the-variants.{Done}
 use Rattle.ground.specs.declared.Answer.the-variants.{Refused as AnswerRefused}
 use Rattle.sets.specs.declared.Set.{Set}
-use Rattle.sets.specs.Rules.{verdictRules}
-use Rattle.sets.specs.Fits.{verdict-met}
+use Rattle.refusals.specs.Rules.{verdictRules}
+use Rattle.refusals.specs.Fits.{verdict-met}
 use Rattle.matrix.specs.AnswerLaws.{number-of-answer, answer-done, answer-refused}
 use Rattle.scheme.specs.Maps.{allInvertible}
 use Rattle.scheme.specs.Verdict.{verdictRefusals}

@@ -3,7 +3,6 @@
 mod compare;
 mod map;
 mod numbers;
-mod places;
 mod sums;
 
 pub use numbers::number;
@@ -34,7 +33,7 @@ pub fn verify(
     ensures { λ r. ⌜ r ≡ verdictOf (lowest (verdictRefusals set (now (public .entry)) (now (abq .entry)) (now (target .entry)) (now (key .entry)) (now (signature .entry))))
         (accepted set (now (public .entry)) (now (abq .entry)) (now (key .entry)) (now (signature .entry)) (now (target .entry))) ⌝ }
 {
-    let refusal = sets::verdict_refusal(
+    let refusal = refusals::verdict_refusal(
         set,
         public.len(),
         abq.len(),

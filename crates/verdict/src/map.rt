@@ -8,10 +8,6 @@ ghost use Rattle.sets.specs.Sets.{publicBytes, keyBytes, variables};
 ghost use Rattle.tables.specs.Table.{Holds};
 ghost use Rattle.verdict.specs.MapRows.{splitRow, mapSum};
 ghost use mathlib.Core.Path.{_≡_};
-use super::places::p11_number;
-use super::places::p12_number;
-use super::places::p21_number;
-use super::places::p22_number;
 use sets::Set;
 
 // Row r of y gains row r of v blocks of one stream times the first v block rows of w, and row r of o blocks of another times the o block rows behind them.
@@ -71,8 +67,8 @@ fn vinegar_rows(y: &mut [u8], set: Set, public: &[u8], key: &[u8], w: &[u8], i: 
         (λ z b. mapSum set (now (public .entry)) (now (key .entry)) (now (w .entry)) i j b) ⌝ }
 {
     rows::clear(y);
-    let first = p11_number(set, i, j);
-    let second = p12_number(set, i, j);
+    let first = tables::p11_number(set, i, j);
+    let second = tables::p12_number(set, i, j);
     add_rows(y, set, public, first, public, second, w);
 }
 
@@ -85,8 +81,8 @@ fn oil_rows(y: &mut [u8], set: Set, public: &[u8], key: &[u8], w: &[u8], i: usiz
         (λ z b. mapSum set (now (public .entry)) (now (key .entry)) (now (w .entry)) i (set .v + k) b) ⌝ }
 {
     rows::clear(y);
-    let first = p21_number(set, i, k);
-    let second = p22_number(set, i, k);
+    let first = tables::p21_number(set, i, k);
+    let second = tables::p22_number(set, i, k);
     add_rows(y, set, public, first, key, second, w);
 }
 

@@ -9,9 +9,7 @@ ghost use Rattle.scheme.specs.Streams.{signatureOf};
 ghost use Rattle.verdict.specs.Sums.{PowersOf, IndexSums, SumsOf};
 use super::map::map_rows;
 use sets::Set;
-
-// Room for the powers of S, and for l rows of l·l bytes.
-const CUBE: usize = 64;
+use tables::POWERS;
 
 // Room for the signature's elements, one to a byte.
 const LIST: usize = 1360;
@@ -23,7 +21,7 @@ pub fn signature_table(w: &mut [u8], set: Set, signature: &[u8])
 {
     let l = set.l;
     let n = set.v + set.o;
-    let mut powers = [0u8; CUBE];
+    let mut powers = [0u8; POWERS];
     tables::powers_of_s(&mut powers, l);
     let mut list = [0u8; LIST];
     tables::unpack_all(&mut list, signature, n * (l * l));
@@ -40,7 +38,7 @@ fn index_sums(sums: &mut [u8], set: Set, public: &[u8], key: &[u8], w: &[u8], i:
     let l = set.l;
     let n = set.v + set.o;
     let at = i * (l * l) * (l * l);
-    let mut y = [0u8; CUBE];
+    let mut y = [0u8; POWERS];
     let mut j = 0;
     while j < n {
         map_rows(&mut y, set, public, key, w, i, j);

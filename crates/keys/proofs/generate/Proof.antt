@@ -6,7 +6,7 @@ use lib.ListN.{length}
 use Rattle.ground.specs.Answers.{answerOf}
 use Rattle.packing.specs.Refusals.{writes-by}
 use Rattle.sets.specs.Bounds.{bounds}
-use Rattle.sets.specs.Fits.{keygen-fits}
+use Rattle.refusals.specs.Fits.{keygen-fits}
 use Rattle.scheme.specs.Verdict.{keygenRefusals}
 use borrow.Author.Needs.{needs}
 use Rattle.keys.proofs.generate.Statement.{statement}

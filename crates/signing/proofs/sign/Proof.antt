@@ -1,7 +1,7 @@
 -- `signing::sign` meets its contract. The lengths refuse first, then Algorithm 2's helper; what is left is `sign_lent`. Rests on Outcomes.
 use mathlib.Core.Path.{sym, _∙_}
 use lib.ListN.{length}
-use Rattle.sets.specs.Fits.{sign-fits}
+use Rattle.refusals.specs.Fits.{sign-fits}
 use Rattle.sets.specs.Bounds.{bounds}
 use Rattle.signing.specs.Outcomes.{refused-length, refused-invertible, nothing-refused}
 use borrow.Author.Needs.{needs}

@@ -1,7 +1,7 @@
 -- `signing::sign_lent` meets its contract. What solving found decides: the signature is written, or nothing; then the work area is cleared. Rests on Outcomes.
 use mathlib.Core.Path.{ap, _∙_}
 use lib.ListN.{length}
-use Rattle.sets.specs.Fits.{SignFits}
+use Rattle.refusals.specs.Fits.{SignFits}
 use Rattle.sets.specs.Bounds.{Bounds, bounds}
 use Rattle.rows.specs.Zero.{zeros}
 use Rattle.signing.specs.Refusals.{fits, invertible}

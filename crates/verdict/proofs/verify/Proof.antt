@@ -3,7 +3,7 @@ use mathlib.Core.Path.{sym, _∙_}
 use mathlib.Core.Bool.{Bool}
 use lib.ListN.{length}
 use Rattle.sets.specs.Bounds.{bounds}
-use Rattle.sets.specs.Fits.{verdict-fits}
+use Rattle.refusals.specs.Fits.{verdict-fits}
 use Rattle.scheme.specs.Verdict.{accepted}
 use Rattle.verdict.specs.Promise.{refused-lengths, refused-21, compared, all-invertible-met}
 use borrow.Author.Needs.{needs}

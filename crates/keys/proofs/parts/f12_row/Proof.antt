@@ -1,5 +1,6 @@
 -- `keys::parts::f12_row` meets its contract: the row gains P12's row, then that of P11·T12. Rests on Parts and Places.
-use Rattle.keys.specs.Places.{RowTurn, row-turn, public-within}
+use Rattle.tables.specs.Numbers.{public-within}
+use Rattle.keys.specs.Places.{RowTurn, row-turn}
 use Rattle.keys.specs.Parts.{f12-row}
 use borrow.Author.Needs.{needs}
 use native.Mathlib.Omega.{arith}
@@ -24,7 +25,7 @@ div-p12-number c = omega (arith, turn (c .before .before .before .before))
 p12-number-requires : tie.Need-p12-number-requires
 p12-number-requires c κs =
     let begin = c .before .before .before .before in
-    (begin .pre .0, (begin .pre .1 .0 .0, turn begin .block))
+    (begin .pre .0, begin .pre .1 .0 .0, turn begin .block)
 
 div-p11-number : tie.Need-div-p11-number
 div-p11-number c = omega (arith, turn (c .before .before .before .before .before))
@@ -32,7 +33,7 @@ div-p11-number c = omega (arith, turn (c .before .before .before .before .before
 p11-number-requires : tie.Need-p11-number-requires
 p11-number-requires c κs =
     let begin = c .before .before .before .before .before in
-    (begin .pre .0, (begin .pre .1 .0 .0, turn begin .block))
+    (begin .pre .0, begin .pre .1 .0 .0, turn begin .block)
 
 rem-add-block-row : tie.Need-rem-add-block-row
 rem-add-block-row c = omega (arith, turn (c .before .before .before .before .before .before .before))
@@ -43,7 +44,7 @@ add-block-row-requires c κs =
     let blocks = c .before .before .p12-number .ensures .within in (
       omega (arith, turn begin .row, begin .pre .1 .1 .0),
       turn begin .entry,
-      omega (arith, blocks, public-within (begin .args .set) (begin .pre .1 .0 .2)),
+      public-within (begin .pre .0) (begin .args .public .now) (begin .pre .1 .0 .2) blocks,
     )
 
 rem-add-product-row : tie.Need-rem-add-product-row
@@ -55,7 +56,7 @@ add-product-row-requires c κs =
     let blocks = c .before .before .before .before .before .p11-number .ensures .within in (
       omega (arith, turn begin .row, begin .pre .1 .1 .0, c .before .before .before .add-block-row .kept .0),
       turn begin .entry,
-      omega (arith, blocks, public-within (begin .args .set) (begin .pre .1 .0 .2)),
+      public-within (begin .pre .0) (begin .args .public .now) (begin .pre .1 .0 .2) blocks,
       omega (arith, begin .pre .1 .1 .1),
       turn begin .wide,
     )

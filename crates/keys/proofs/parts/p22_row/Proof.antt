@@ -1,5 +1,6 @@
 -- `keys::parts::p22_row` meets its contract: the row gains that of T12ᵗ·F12, then that of P21·T12. Rests on Parts and Places.
-use Rattle.keys.specs.Places.{RowTurn, row-turn, public-within, column-within}
+use Rattle.tables.specs.Numbers.{public-within}
+use Rattle.keys.specs.Places.{RowTurn, row-turn, column-within}
 use Rattle.keys.specs.Parts.{p22-row}
 use borrow.Author.Needs.{needs}
 use native.Mathlib.Omega.{arith}
@@ -27,7 +28,7 @@ div-p21-number c = omega (arith, turn (c .before .before .before .before .before
 p21-number-requires : tie.Need-p21-number-requires
 p21-number-requires c κs =
     let begin = c .before .before .before .before .before .before in
-    (begin .pre .0, (begin .pre .1 .0 .0, turn begin .block))
+    (begin .pre .0, begin .pre .1 .0 .0, turn begin .block)
 
 add-columns-requires : tie.Need-add-columns-requires
 add-columns-requires c κs =
@@ -43,7 +44,7 @@ add-product-row-requires c κs =
     let blocks = c .before .before .before .before .before .p21-number .ensures .within in (
       omega (arith, turn begin .row, begin .pre .1 .1 .0, c .before .before .before .add-columns .kept .0),
       turn begin .entry,
-      omega (arith, blocks, public-within (begin .args .set) (begin .pre .1 .0 .2)),
+      public-within (begin .pre .0) (begin .args .public .now) (begin .pre .1 .0 .2) blocks,
       omega (arith, begin .pre .1 .1 .1),
       turn begin .wide,
     )

@@ -1,7 +1,7 @@
 -- `sets::length::abq_bytes` meets its contract: an allowed set has its bounds, so the count is asked for; any other set answers 0.
 -- A callee with no `requires` asks nothing: `(λ _ _. tt)`.
 use mathlib.Core.Path.{refl, sym, _∙_, ap}
-use Rattle.sets.specs.Picks.{picked-first, picked-second}
+use Rattle.ground.specs.Pick.{picked-first, picked-second}
 use Rattle.sets.specs.Sets.{bytesFor, abqBytes}
 use Rattle.sets.specs.Bounds.{bounds}
 use Rattle.sets.proofs.length.abq_bytes.Statement.{statement}

@@ -3,7 +3,7 @@
 use mathlib.Core.Path.{refl, sym, _∙_, ap}
 use Prim.Native.Nat.{_+_}
 use native.Mathlib.Omega.{arith}
-use Rattle.sets.specs.Picks.{picked-first, picked-second}
+use Rattle.ground.specs.Pick.{picked-first, picked-second}
 use Rattle.sets.specs.Sets.{bytesFor, saltBytes, signatureBytes}
 use Rattle.sets.specs.Bounds.{bounds}
 use Rattle.sets.proofs.length.signature_bytes.Statement.{statement}

@@ -4,7 +4,7 @@ use mathlib.Core.Path.{refl, sym, _∙_, ap}
 use Prim.Native.Nat.{_+_, _*_, _≤_}
 use native.Mathlib.Nat.{mul-le-mul}
 use native.Mathlib.Omega.{arith}
-use Rattle.sets.specs.Picks.{picked-first, picked-second}
+use Rattle.ground.specs.Pick.{picked-first, picked-second}
 use Rattle.sets.specs.Sets.{mostRow, workBytes}
 use Rattle.sets.specs.Bounds.{Bounds, bounds}
 use Rattle.sets.proofs.length.work_bytes.Statement.{statement}

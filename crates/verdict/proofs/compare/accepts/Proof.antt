@@ -1,7 +1,8 @@
 -- `verdict::compare::accepts` meets its contract: the two tables, and the comparison of every equation. Rests on Compare and Places.
 use mathlib.Core.Path.{_∙_}
 use Rattle.rows.specs.Zero.{length-zeros}
-use Rattle.verdict.specs.Places.{table-room, sums-room}
+use Rattle.tables.specs.Rooms.{sums-room}
+use Rattle.verdict.specs.Places.{table-room}
 use Rattle.verdict.specs.Compare.{meets-accepted}
 use borrow.Author.Needs.{needs}
 use native.Mathlib.Omega.{arith}

@@ -1,7 +1,6 @@
--- `verdict::map::vinegar_rows` meets its contract: P11 and P12 of row j are a row of P. Rests on MapRows and Places.
-use Prim.Native.Nat.{_+_, _≤_}
+-- `verdict::map::vinegar_rows` meets its contract: P11 and P12 of row j are a row of P. Rests on MapRows and on tables' Numbers.
 use Rattle.tables.specs.Table.{cleared}
-use Rattle.verdict.specs.Places.{p11-fits, p12-fits, public-within, publicBlocks}
+use Rattle.tables.specs.Numbers.{public-within}
 use Rattle.verdict.specs.MapRows.{vinegar-holds}
 use borrow.Author.Needs.{needs}
 use native.Mathlib.Omega.{arith}
@@ -20,8 +19,8 @@ p12-number-requires c κs = c .before .before .before .before .before .before .b
 add-rows-requires : tie.Need-add-rows-requires
 add-rows-requires c κs =
     let s = c .before .before .before .before .before .before .before .before .before .before .before in
-    let left : c .before .before .p11-number .result + s .args .set .v ≤ publicBlocks (s .args .set) = omega (arith, c .before .before .p11-number .ensures, p11-fits (s .args .set) (s .pre .0 .1) (s .pre .0 .2)) in
-    let right : c .before .p12-number .result + s .args .set .o ≤ publicBlocks (s .args .set) = omega (arith, c .before .p12-number .ensures, p12-fits (s .args .set) (s .pre .0 .1) (s .pre .0 .2)) in (
+    let left = c .before .before .p11-number .ensures .within in
+    let right = c .before .p12-number .ensures .within in (
       s .pre .0 .0,
       (
         (omega (arith, s .pre .1 .0 .0, c .before .before .before .before .before .clear .kept .0), s .pre .1 .0 .1),
@@ -36,7 +35,7 @@ returns : tie.Need-returns
 returns c =
     let s = c .before .before .before .before .before .before .before .before .before .before .before .before .before .before in
     let a = s .args in
-    vinegar-holds (a .set) (a .public .now) (a .key .now) (a .w .now) (a .i) (a .j) (s .pre .0 .2) (c .before .before .before .before .before .p11-number .ensures) (c .before .before .before .before .p12-number .ensures)
+    vinegar-holds (a .set) (a .public .now) (a .key .now) (a .w .now) (a .i) (a .j) (s .pre .0 .2) (c .before .before .before .before .before .p11-number .ensures .is) (c .before .before .before .before .p12-number .ensures .is)
     (cleared (a .y .now) (c .before .before .before .before .before .before .before .before .clear .ensures)) (c .before .before .add-rows .ensures)
 
 pub vinegar-rows-spec : {M : Type 1} → statement M

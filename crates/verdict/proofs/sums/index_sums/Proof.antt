@@ -4,7 +4,8 @@ use Prim.Native.Nat.{_-_, _*_, _≤_}
 use lib.ListN.{length}
 use Rattle.ground.specs.Place.{row-fits}
 use Rattle.rows.specs.Zero.{length-zeros}
-use Rattle.verdict.specs.Places.{index-within, block-row-within, sums-room}
+use Rattle.verdict.specs.Places.{index-within, block-row-within}
+use Rattle.tables.specs.Rooms.{sums-room}
 use Rattle.verdict.specs.Sums.{IndexSums, index-none, index-next, index-end}
 use borrow.Author.Needs.{needs}
 use native.Mathlib.Omega.{arith}

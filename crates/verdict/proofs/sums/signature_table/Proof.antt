@@ -1,7 +1,8 @@
 -- `verdict::sums::signature_table` meets its contract: the powers of S, the elements unpacked, and their products. Rests on Sums and Places.
 use mathlib.Core.Path.{refl, _∙_}
 use Rattle.rows.specs.Zero.{length-zeros}
-use Rattle.verdict.specs.Places.{list-room, signature-within, cube-room}
+use Rattle.tables.specs.Rooms.{powers-room}
+use Rattle.verdict.specs.Places.{list-room, signature-within}
 use Rattle.verdict.specs.Sums.{powers-of-signature}
 use borrow.Author.Needs.{needs}
 use native.Mathlib.Omega.{arith}
@@ -15,7 +16,7 @@ slice-aggregate-powers-of-s : tie.Need-slice-aggregate-powers-of-s
 slice-aggregate-powers-of-s c = search needs
 
 powers-of-s-requires : tie.Need-powers-of-s-requires
-powers-of-s-requires c κs = omega (arith, c .before .before .before .before .pre .0 .limits .l-most, cube-room (c .before .before .before .before .pre .0), length-zeros 64)
+powers-of-s-requires c κs = omega (arith, c .before .before .before .before .pre .0 .limits .l-most, powers-room (c .before .before .before .before .pre .0), length-zeros 64)
 
 slice-aggregate-unpack-all : tie.Need-slice-aggregate-unpack-all
 slice-aggregate-unpack-all c = search needs
@@ -42,7 +43,7 @@ power-table-requires c κs =
     let s = c .before .before .before .before .before .before .before .before .before .before .before .before in
     let list-long = c .before .before .before .before .unpack-all .ensures .long ∙ length-zeros 1360 in
     let powers-long = c .before .before .before .before .before .before .before .powers-of-s .ensures .long ∙ length-zeros 64 in
-    (omega (arith, s .pre .0 .limits .l-least, s .pre .2, list-room (s .pre .0), cube-room (s .pre .0)), c .before .before .before .before .before .before .before .powers-of-s .ensures .holds)
+    (omega (arith, s .pre .0 .limits .l-least, s .pre .2, list-room (s .pre .0), powers-room (s .pre .0)), c .before .before .before .before .before .before .before .powers-of-s .ensures .holds)
 
 same-length : tie.Need-same-length
 same-length c = search needs

@@ -1,0 +1,71 @@
+-- More laws of the lowest refusal, for lists whose numbers are not 0: no refusal is every rule met, the answer is listed, and what rules added at the end change.
+-- Rests on Answers.
+use mathlib.Core.Path.{_≡_, refl}
+use mathlib.Core.Bool.{Bool, true, false}
+use mathlib.Core.List.{List, [], _∷_, _++_, List·Memᴰ, List·Memᴰ·head, List·Memᴰ·tail, List·Memᴰ·cases-cons}
+use Prim.Native.Nat.{ℕ, _<_}
+use mathlib.Core.Logic.{_⊎_, inl, inr}
+use native.Mathlib.Omega.{arith}
+use lib.Dec.{T, ltb, ltb→lt, eqb}
+use borrow.Author.Tests.{ne-eqb}
+use Rattle.ground.specs.Pick.{pick, both}
+use Rattle.ground.specs.Answers.{Rule, lowest, Met, met-none, met-more}
+
+-- the numbers of the rules, in order
+abbrev pub numbers : List Rule → List ℕ
+numbers [] = []
+numbers (r ∷ rs) = r .number ∷ numbers rs
+
+-- no rule has the number 0: a test, so that it computes on a list that is written out
+abbrev pub numbered : List Rule → Bool
+numbered [] = true
+numbered (r ∷ rs) = both (ltb 0 (r .number)) (numbered rs)
+
+first-numbered : (r : Rule) (rs : List Rule) → T (numbered (r ∷ rs)) → 0 < r .number
+first-numbered r rs t = by (ltb 0 (r .number)) refl t
+  where
+    by : (b : Bool) → ltb 0 (r .number) ≡ b → T (both b (numbered rs)) → 0 < r .number
+    by true e u = ltb→lt 0 (r .number) (rw e tt)
+    by false e u = absurd u
+
+rest-numbered : (r : Rule) (rs : List Rule) → T (numbered (r ∷ rs)) → T (numbered rs)
+rest-numbered r rs t = by (ltb 0 (r .number)) t
+  where
+    by : (b : Bool) → T (both b (numbered rs)) → T (numbered rs)
+    by true u = u
+    by false u = absurd u
+
+-- no refusal: every rule is met
+pub met-of-lowest : (rs : List Rule) → T (numbered rs) → lowest rs ≡ 0 → Met rs
+unfolding lowest
+met-of-lowest [] t e = met-none
+met-of-lowest (r ∷ rs) t e = by (r .met) refl (λ z. met-of-lowest rs (rest-numbered r rs t) z)
+  where
+    by : (b : Bool) → r .met ≡ b → (lowest rs ≡ 0 → Met rs) → Met (r ∷ rs)
+    by true q h = met-more q (h (rw q at e))
+    by false q h = let z : r .number ≡ 0 = rw q at e in let p = first-numbered r rs t in absurd (omega arith)
+
+-- the answer is 0 or the number of a rule
+pub lowest-listed : (rs : List Rule) → List·Memᴰ (lowest rs) (0 ∷ numbers rs)
+unfolding lowest
+lowest-listed [] = List·Memᴰ·head refl
+lowest-listed (r ∷ rs) = by (r .met) (lowest-listed rs)
+  where
+    further : (lowest rs ≡ 0) ⊎ List·Memᴰ (lowest rs) (numbers rs) → List·Memᴰ (lowest rs) (0 ∷ (r .number ∷ numbers rs))
+    further (inl e) = List·Memᴰ·head e
+    further (inr m) = List·Memᴰ·tail (List·Memᴰ·tail m)
+
+    by : (b : Bool) → List·Memᴰ (lowest rs) (0 ∷ numbers rs) → List·Memᴰ (pick b (lowest rs) (r .number)) (0 ∷ (r .number ∷ numbers rs))
+    by true m = further (List·Memᴰ·cases-cons m)
+    by false m = List·Memᴰ·tail (List·Memᴰ·head refl)
+
+-- rules added at the end count where there was no refusal before
+pub lowest-then : (rs rs′ : List Rule) → T (numbered rs) → lowest (rs ++ rs′) ≡ pick (eqb (lowest rs) 0) (lowest rs′) (lowest rs)
+unfolding lowest
+lowest-then [] rs′ t = refl
+lowest-then (r ∷ rs) rs′ t = by (r .met) (lowest-then rs rs′ (rest-numbered r rs t))
+  where
+    by : (b : Bool) → lowest (rs ++ rs′) ≡ pick (eqb (lowest rs) 0) (lowest rs′) (lowest rs)
+        → pick b (lowest (rs ++ rs′)) (r .number) ≡ pick (eqb (pick b (lowest rs) (r .number)) 0) (lowest rs′) (pick b (lowest rs) (r .number))
+    by true h = h
+    by false h = let p = first-numbered r rs t in rw (ne-eqb (r .number) 0 (omega arith))

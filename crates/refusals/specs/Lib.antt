@@ -1,0 +1,4 @@
+pub mod Rules
+pub mod Fits
+pub mod Unique
+pub mod Cases

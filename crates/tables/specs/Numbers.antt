@@ -1,0 +1,64 @@
+-- Where a block row stands: its first block's number, and that the row lies within its stream.
+-- Rests on scheme's numbers of blocks and on the bounds of an allowed set.
+use mathlib.Core.Path.{_≡_}
+use mathlib.Core.List.{List}
+use Prim.Native.Nat.{ℕ, _+_, _*_, _<_, _≤_}
+use native.Mathlib.Nat.{mul-le-mul-right}
+use native.Mathlib.Omega.{arith}
+use lib.Arith.{digits-lt}
+use lib.ListN.{length}
+use Rattle.ground.specs.Place.{row-fits}
+use Rattle.sets.specs.declared.Set.{Set}
+use Rattle.sets.specs.Sets.{publicCount, keyCount, publicBytes, keyBytes}
+use Rattle.sets.specs.Bounds.{Bounds}
+use Rattle.scheme.specs.Streams.{p11Number, p12Number, p21Number, p22Number}
+
+-- how many blocks the public stream has, and the key
+abbrev pub publicBlocks : Set → ℕ
+publicBlocks s = s .o * (s .v * s .v) + s .o * (s .v * s .o) + s .o * (s .o * s .v)
+
+abbrev pub keyBlocks : Set → ℕ
+keyBlocks s = s .o * s .o * s .o
+
+-- n is a block's number, and count blocks from it on are among the stream's blocks
+pub record Starts (blocks number count n : ℕ) : Type 0 where
+  pub is : n ≡ number
+  pub within : n + count ≤ blocks
+
+module _ (set : Set) {i j : ℕ} (hi : i < set .o) where
+  pub p11-fits : j < set .v → p11Number set i j 0 + set .v ≤ publicBlocks set
+  p11-fits hj = omega (arith, row-fits (set .v) (digits-lt hi hj))
+
+  pub p12-fits : j < set .v → p12Number set i j 0 + set .o ≤ publicBlocks set
+  p12-fits hj = omega (arith, row-fits (set .o) (digits-lt hi hj))
+
+  pub p21-fits : j < set .o → p21Number set i j 0 + set .v ≤ publicBlocks set
+  p21-fits hj = omega (arith, row-fits (set .v) (digits-lt hi hj))
+
+  pub p22-fits : j < set .o → p22Number set i j 0 + set .o ≤ keyBlocks set
+  p22-fits hj = omega (arith, row-fits (set .o) (digits-lt hi hj))
+
+-- what was computed is the number
+pub starts : {blocks number count n : ℕ} → n ≡ number → number + count ≤ blocks → Starts blocks number count n
+starts e h = record { is = e; within = omega arith }
+
+module _ {set : Set} (b : Bounds set) where
+  -- there are few blocks
+  pub few-public : publicBlocks set ≤ 400000
+  few-public = omega (arith, b .products .vvo, b .products .voo)
+
+  pub few-key : keyBlocks set ≤ 40000
+  few-key = omega (arith, b .products .ooo)
+
+  -- blocks of a stream of the exact length stand in its bytes
+  pub public-within : (public : List ℕ) {n : ℕ} → length public ≡ publicBytes set → n ≤ publicBlocks set → n * (set .l * set .l) ≤ 2 * length public
+  unfolding publicBytes
+  public-within public long h =
+      let whole : publicCount set ≤ 2 * length public = omega arith in
+      omega (arith, mul-le-mul-right (set .l * set .l) h, b .counts .public)
+
+  pub key-within : (key : List ℕ) {n : ℕ} → length key ≡ keyBytes set → n ≤ keyBlocks set → n * (set .l * set .l) ≤ 2 * length key
+  unfolding keyBytes
+  key-within key long h =
+      let whole : keyCount set ≤ 2 * length key = omega arith in
+      omega (arith, mul-le-mul-right (set .l * set .l) h, b .counts .key)
