@@ -1,10 +1,9 @@
 -- Where the vinegar is zero, or the public stream is, the linear part is zero at every oil: every oil choice is sent to zero, and that is redo.
--- Rests on scheme's linear part and oil choices, and on verdict's places of P11, P12, P21 in the public stream.
+-- Rests on scheme's linear part and oil choices, and on tables' places of P11, P12, P21 in the public stream.
 use mathlib.Core.Path.{_≡_, refl}
 use mathlib.Core.List.{List}
 use Prim.Native.Nat.{ℕ, _*_, _<_}
 use native.Mathlib.Omega.{arith}
-use lib.Arith.{digits-lt}
 use Rattle.algebra.specs.Ring.{mul-zero, zero-mul}
 use Rattle.algebra.specs.Sum.{sum-zeros}
 use Rattle.algebra.specs.Split as Split
@@ -19,7 +18,8 @@ use Rattle.scheme.specs.Maps.{sumM, matrixIndex, F12, F21, linearPart}
 use Rattle.scheme.specs.Parts.{parts-12, parts-21}
 use Rattle.scheme.specs.Entries.{matrixIndex-lt}
 use Rattle.scheme.specs.Oil.{SentToZero, Redo}
-use Rattle.verdict.specs.Places.{publicBlocks, p11-fits, p12-fits, p21-fits}
+use Rattle.scheme.specs.Verdict.{zero-blocks}
+use Rattle.tables.specs.Numbers.{publicBlocks, p11-fits, p12-fits, p21-fits}
 
 -- ---- matrices that are zero inside l
 
@@ -43,11 +43,6 @@ module _ {l : ℕ} where
   nought-transpose : {M : Matrix} → Nought l M → Nought l (transpose M)
   unfolding transpose
   nought-transpose m = same-transpose m
-
--- a stream of zero elements has zero blocks
-zero-blocks : (l n : ℕ) (s : List ℕ) → ((e : ℕ) → e < n * (l * l) → element s e ≡ 0) → (b : ℕ) → b < n → Nought l (blockOf l s b)
-unfolding blockOf
-zero-blocks l n s zeros b h = record { at = λ r c hr hc. zeros _ (digits-lt h (digits-lt hr hc)) }
 
 -- ---- the linear part
 

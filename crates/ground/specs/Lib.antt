@@ -4,5 +4,6 @@ pub mod Fill
 pub mod Segment
 pub mod Place
 pub mod Answers
+pub mod AnswerLaws
 pub mod Lowest
 pub mod Outcome

@@ -9,7 +9,7 @@ use native.Mathlib.Omega.{arith}
 use lib.Dec.{T, ltb, ltb→lt, eqb}
 use borrow.Author.Tests.{ne-eqb}
 use Rattle.ground.specs.Pick.{pick, both}
-use Rattle.ground.specs.Answers.{Rule, lowest, Met, met-none, met-more}
+use Rattle.ground.specs.Answers.{Rule, unless, lowest, Met, met-none, met-more}
 
 -- the numbers of the rules, in order
 abbrev pub numbers : List Rule → List ℕ
@@ -69,3 +69,9 @@ lowest-then (r ∷ rs) rs′ t = by (r .met) (lowest-then rs rs′ (rest-numbere
         → pick b (lowest (rs ++ rs′)) (r .number) ≡ pick (eqb (pick b (lowest rs) (r .number)) 0) (lowest rs′) (pick b (lowest rs) (r .number))
     by true h = h
     by false h = let p = first-numbered r rs t in rw (ne-eqb (r .number) 0 (omega arith))
+
+-- no refusal: the first rule is met, and so is the rest
+pub lowest-passes : (n : ℕ) (met : Bool) (rs : List Rule) → (n ≡ 0 → ⊥) → lowest (unless n met ∷ rs) ≡ 0 → (met ≡ true) × (lowest rs ≡ 0)
+unfolding lowest
+lowest-passes n true rs p e = (refl, e)
+lowest-passes n false rs p e = absurd (p e)

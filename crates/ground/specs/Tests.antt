@@ -2,8 +2,9 @@
 -- Rests on Pick.
 use mathlib.Core.Path.{_≡_, refl, ap, ap₂, subst, sym, _∙_}
 use mathlib.Core.Bool.{Bool, true, false}
-use Prim.Native.Nat.{ℕ, zero, suc, _<_, _≤_}
+use Prim.Native.Nat.{ℕ, zero, suc, _+_, _<_, _≤_}
 use native.Mathlib.Nat.{le-of-suc-le-suc, not-suc-le-zero}
+use native.Mathlib.Numerals.{add-one}
 use native.Mathlib.Decide.{decLt}
 use native.Mathlib.Omega.{arith}
 use lib.Dec.{T}
@@ -35,6 +36,12 @@ below3 n f t a b c ha hb hc = below n (f a b) (below2 n (λ x y. every n (f x y)
 
 -- the test as a fact: it holds exactly where each test does
 
+pub every-none : (f : ℕ → Bool) → every 0 f ≡ true
+every-none f = refl
+
+pub every-more : (n : ℕ) (f : ℕ → Bool) → every n f ≡ true → f n ≡ true → every (n + 1) f ≡ true
+every-more n f t e = rw (add-one n) (both-true e t)
+
 pub every-at : (n : ℕ) (f : ℕ → Bool) → every n f ≡ true → (k : ℕ) → k < n → f k ≡ true
 every-at zero f e k h = absurd (not-suc-le-zero h)
 every-at (suc n) f e k h =
@@ -46,6 +53,14 @@ every-at (suc n) f e k h =
 pub every-true : (n : ℕ) (f : ℕ → Bool) → ((k : ℕ) → k < n → f k ≡ true) → every n f ≡ true
 every-true zero f e = refl
 every-true (suc n) f e = both-true (e n (omega arith)) (every-true n f (λ k h. e k (omega arith)))
+
+pub every-fails : (n : ℕ) (f : ℕ → Bool) (k : ℕ) → k < n → f k ≡ false → every n f ≡ false
+every-fails zero f k h e = absurd (not-suc-le-zero h)
+every-fails (suc n) f k h e = elim (decLt k n) [ yes l ↦ rw (every-fails n f k l e) (none (f n)) | no l ↦ let here : n ≡ k = omega arith in rw (here, e) ]
+  where
+    none : (b : Bool) → both b false ≡ false
+    none true = refl
+    none false = refl
 
 pub every-cong : (n : ℕ) (f g : ℕ → Bool) → ((k : ℕ) → k < n → f k ≡ g k) → every n f ≡ every n g
 every-cong zero f g e = refl

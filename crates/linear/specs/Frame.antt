@@ -101,10 +101,6 @@ cleared {g} {h} {n} {k} {new} p e = record { gain = gain }
         let e0 : r * (n + 1) + c ≡ 0 + (r * (n + 1) + c) = omega arith in
         ap (λ i. getD h i 0) e0 ∙ p .inside r c b (omega arith) ∙ rw (← e0, e c l) refl
 
--- the loop's end
-pub rows-end : {d t : List ℕ} {base i m n : ℕ} {f : ℕ → ℕ → ℕ} → PlusRows d base i n f t → i ≤ m → m ≤ i → PlusRows d base m n f t
-rows-end {d} {t} {base} {n = n} {f = f} p h l = subst (λ k. PlusRows d base k n f t) (omega arith) p
-
 -- one row more: its factor is read where the rows before it have gained, and it has not
 pub cleared-next : {g t u : List ℕ} (n k : ℕ) {r : ℕ} (s : ℕ) (new : ℕ → ℕ) → PlusRows g 0 r (n + 1) (λ r c. mul (factor k (at g n) r) (new c)) t
     → s ≡ factor k (at t n) r → Plus t (r * (n + 1)) (n + 1) (λ c. mul s (new c)) u

@@ -11,7 +11,6 @@ pub mod Promises
 pub mod Filling
 pub mod Steps
 pub mod LimitLaws
-pub mod AnswerLaws
 pub mod PromiseLaws
 pub mod InvertibleLaws
 pub mod Searching

@@ -9,32 +9,10 @@ use native.Mathlib.Omega.{arith}
 use borrow.Author.Tests.{lt-ltb, le-ltb, ltb-true, leb-true}
 use lib.Dec.{leb, ltb}
 use Rattle.ground.specs.Pick.{both, both-left, both-right, both-true}
-use Rattle.ground.specs.Tests.{every}
+use Rattle.ground.specs.Tests.{every, every-at, every-true, every-fails}
 use Rattle.matrix.specs.Matrix.{Matrix}
 use Rattle.matrix.specs.Block.{inside, inside-row, inside-column, cell, cell-at}
 use Rattle.matrix.specs.Limits.{leastSize, mostSize, sizeAllowed, entriesAllowed, coefficientsAllowed}
-
--- ---- a test of every number below n
-
-every-true : (n : ℕ) (f : ℕ → Bool) → ((k : ℕ) → k < n → f k ≡ true) → every n f ≡ true
-every-true zero f h = refl
-every-true (suc n) f h = both-true (h n (omega arith)) (every-true n f (λ k l. h k (omega arith)))
-
-every-false : (n : ℕ) (f : ℕ → Bool) (k : ℕ) → k < n → f k ≡ false → every n f ≡ false
-every-false zero f k h e = absurd (not-suc-le-zero h)
-every-false (suc n) f k h e = elim (decLt k n) [ yes l ↦ rw (every-false n f k l e) (none (f n)) | no l ↦ let here : n ≡ k = omega arith in rw (here, e) ]
-  where
-    none : (b : Bool) → both b false ≡ false
-    none true = refl
-    none false = refl
-
-every-below : (n : ℕ) (f : ℕ → Bool) → every n f ≡ true → (k : ℕ) → k < n → f k ≡ true
-every-below zero f t k h = absurd (not-suc-le-zero h)
-every-below (suc n) f t k h =
-    elim (decLt k n) [
-      | yes l ↦ every-below n f (both-right (f n) (every n f) t) k l
-      | no l ↦ let here : k ≡ n = omega arith in ap f here ∙ both-left (f n) (every n f) t
-    ]
 
 -- ---- sizes
 
@@ -54,11 +32,11 @@ coefficients-pass l a h = every-true l _ (λ k hk. lt-ltb (a k) 16 (h k hk))
 
 pub coefficients-fail : (l : ℕ) (a : ℕ → ℕ) (k : ℕ) → k < l → 15 < a k → coefficientsAllowed l a ≡ false
 unfolding coefficientsAllowed
-coefficients-fail l a k hk h = every-false l _ k hk (le-ltb (a k) 16 h)
+coefficients-fail l a k hk h = every-fails l _ k hk (le-ltb (a k) 16 h)
 
 pub coefficients-lt : (l : ℕ) (a : ℕ → ℕ) → coefficientsAllowed l a ≡ true → (k : ℕ) → k < l → a k < 16
 unfolding coefficientsAllowed
-coefficients-lt l a t k h = ltb-true (a k) 16 (every-below l (λ k. ltb (a k) 16) t k h)
+coefficients-lt l a t k h = ltb-true (a k) 16 (every-at l (λ k. ltb (a k) 16) t k h)
 
 -- ---- entries
 
@@ -68,12 +46,12 @@ entries-pass l M h = every-true l _ (λ r hr. every-true l _ (λ c hc. lt-ltb (M
 
 pub entries-fail : (l : ℕ) (M : Matrix) (r c : ℕ) → r < l → c < l → 15 < M r c → entriesAllowed l M ≡ false
 unfolding entriesAllowed
-entries-fail l M r c hr hc h = every-false l _ r hr (every-false l _ c hc (le-ltb (M r c) 16 h))
+entries-fail l M r c hr hc h = every-fails l _ r hr (every-fails l _ c hc (le-ltb (M r c) 16 h))
 
 pub entries-lt : (l : ℕ) (M : Matrix) → entriesAllowed l M ≡ true → (r c : ℕ) → r < l → c < l → M r c < 16
 unfolding entriesAllowed
 entries-lt l M t r c hr hc =
-    ltb-true (M r c) 16 (every-below l (λ c. ltb (M r c) 16) (every-below l (λ r. every l (λ c. ltb (M r c) 16)) t r hr) c hc)
+    ltb-true (M r c) 16 (every-at l (λ c. ltb (M r c) 16) (every-at l (λ r. every l (λ c. ltb (M r c) 16)) t r hr) c hc)
 
 -- the same, asked of the block's bytes
 pub cells-pass : (l : ℕ) (M : Matrix) → l ≤ 5 → ((e : ℕ) → e < 25 → cell l M e < 16) → entriesAllowed l M ≡ true

@@ -1,33 +1,16 @@
 -- What follows where nothing is refused: every rule that was looked at is met.
--- Rests on ground's Answers and Outcome; `lowest-passes` and `writes-by` belong beside them.
-use mathlib.Core.Path.{_≡_, refl}
-use mathlib.Core.Bool.{Bool, true, false}
+-- Rests on ground's Lowest.
+use mathlib.Core.Path.{_≡_}
+use mathlib.Core.Bool.{true}
 use mathlib.Core.List.{List, [], _∷_}
-use mathlib.Core.Logic.{_⊎_, ⊎-elim}
 use Prim.Native.Nat.{ℕ}
 use native.Mathlib.Omega.{arith}
 use lib.Dec.{eqb}
 use lib.ListN.{length}
 use borrow.Author.Tests.{eqb-true, eq-eqb}
-use Rattle.ground.specs.Answers.{Rule, unless, lowest, answerOf, met-none, met-more, lowest-met}
-use Rattle.ground.specs.Outcome.{Writes}
-use Rattle.ground.specs.declared.Answer.{Answer}
+use Rattle.ground.specs.Answers.{unless, lowest, met-none, met-more, lowest-met}
+use Rattle.ground.specs.Lowest.{lowest-passes}
 use Rattle.packing.specs.Packing.{packedBytes, inField, packRules, unpackRules}
-
-pub lowest-passes : (n : ℕ) (met : Bool) (rs : List Rule) → (n ≡ 0 → ⊥) → lowest (unless n met ∷ rs) ≡ 0 → (met ≡ true) × (lowest rs ≡ 0)
-unfolding lowest
-lowest-passes n true rs p e = (refl, e)
-lowest-passes n false rs p e = absurd (p e)
-
--- an operation that writes its result where nothing is refused, and otherwise nothing
-pub writes-by : {n : ℕ} {result before : List ℕ} {r : Answer} {after : List ℕ} → r ≡ answerOf n
-    → ((n ≡ 0) × (after ≡ result)) ⊎ ((n ≡ 0 → ⊥) × (after ≡ before)) → Writes n result before r after
-writes-by a w =
-    record {
-      answer = a;
-      refused = λ p. ⊎-elim (λ d. absurd (p (d .0))) (λ u. u .1) w;
-      done = λ p. ⊎-elim (λ d. d .1) (λ u. absurd (u .0 p)) w;
-    }
 
 -- what packing and unpacking may build on
 pub pack-allowed : (elements bytes : List ℕ) → lowest (packRules elements bytes) ≡ 0 → (length bytes ≡ packedBytes (length elements)) × (inField elements ≡ true)

@@ -95,7 +95,7 @@ module _ (set : Set) (public abq private signature target : List ℕ) where
 -- ---- zeros
 
 -- a stream of zero elements has zero blocks
-zero-blocks : (l n : ℕ) (s : List ℕ) → ((e : ℕ) → e < n * (l * l) → element s e ≡ 0) → (b : ℕ) → b < n → Same l (blockOf l s b) zeroM
+pub zero-blocks : (l n : ℕ) (s : List ℕ) → ((e : ℕ) → e < n * (l * l) → element s e ≡ 0) → (b : ℕ) → b < n → Same l (blockOf l s b) zeroM
 unfolding blockOf
 zero-blocks l n s z b h = record { at = λ r c hr hc. z _ (digits-lt h (digits-lt hr hc)) }
 

@@ -17,7 +17,7 @@ use Rattle.rows.specs.Zero.{zeros}
 use Rattle.rows.specs.Plus.{Plus, plus-cong}
 use Rattle.rows.specs.PlusRows.{PlusRows, rows-none, rows-next, rows-cong, rows-then, rows-zero-start}
 use Rattle.rows.specs.Combine.{combination}
-use Rattle.tables.specs.RowsJoin.{rows-end, rows-join}
+use Rattle.rows.specs.RowsJoin.{rows-end, rows-join}
 use Rattle.tables.specs.Table.{cleared}
 use Rattle.tables.specs.Gains.{blocksRow, productRow}
 

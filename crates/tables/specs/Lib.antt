@@ -1,4 +1,3 @@
-pub mod RowsJoin
 pub mod Rooms
 pub mod Numbers
 pub mod Table

@@ -14,7 +14,7 @@ use Rattle.matrix.specs.Block.{view, block, view-block}
 use Rattle.rows.specs.Plus.{Plus, plus-cong}
 use Rattle.rows.specs.PlusRows.{PlusRows, rows-none, rows-cong}
 use Rattle.rows.specs.Zero.{zeros}
-use Rattle.tables.specs.RowsJoin.{rows-join}
+use Rattle.rows.specs.RowsJoin.{rows-join}
 use Rattle.tables.specs.Table.{Filled, filled-rows}
 use Rattle.tables.specs.RingRows.{power-lt}
 

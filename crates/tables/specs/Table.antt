@@ -17,7 +17,7 @@ use Rattle.rows.specs.Plus.{Plus}
 use Rattle.rows.specs.PlusRows.{PlusRows, rows-none, rows-next, rows-lt}
 use Rattle.rows.specs.Tile.{tile, tile-is, entry-tile, rows-tile}
 use Rattle.rows.specs.Zero.{zeros, length-zeros, zero-at}
-use Rattle.tables.specs.RowsJoin.{rows-end}
+use Rattle.rows.specs.RowsJoin.{rows-end}
 
 -- the table s holds the matrices M(j, k) for j < a and k < b
 pub record Holds (l w a b : ℕ) (s : List ℕ) (M : ℕ → ℕ → Matrix) : Type 0 where

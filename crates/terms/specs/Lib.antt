@@ -1,4 +1,3 @@
-pub mod Every
 pub mod Places
 pub mod Terms
 pub mod Reading

@@ -13,12 +13,12 @@ use Rattle.ground.specs.declared.Answer.the-variants.{Done, Refused}
 use Rattle.sets.specs.declared.Set.{Set}
 use Rattle.sets.specs.Sets.{terms}
 use Rattle.matrix.specs.Invertible.{canBeInvertible}
-use Rattle.matrix.specs.AnswerLaws.{answer-done, answer-refused}
+use Rattle.ground.specs.AnswerLaws.{answer-done, answer-refused}
 use Rattle.matrix.specs.Promises.{Makes}
 use Rattle.matrix.specs.declared.Made.{Made}
 use Rattle.scheme.specs.Streams.{blockOf}
 use Rattle.scheme.specs.Maps.{allInvertible}
-use Rattle.terms.specs.Every.{every-none, every-more, every-at, every-fails}
+use Rattle.ground.specs.Tests.{every-none, every-more, every-at, every-fails}
 
 -- block b is not refused
 abbrev pub passes : (l : ℕ) (abq : List ℕ) → ℕ → Bool

@@ -17,7 +17,7 @@ use Rattle.matrix.specs.Block.{view, block, holds}
 use Rattle.scheme.specs.Streams.{blockOf, targetOf, signatureOf, P22}
 use Rattle.scheme.specs.Maps.{meets}
 use Rattle.scheme.specs.Verdict.{accepted, meets-same}
-use Rattle.terms.specs.Every.{every-none, every-more, every-fails}
+use Rattle.ground.specs.Tests.{every-none, every-more, every-fails}
 use Rattle.terms.specs.Terms.{equationFrom}
 use Rattle.terms.specs.FromSums.{public-from-sums}
 use Rattle.verdict.specs.Sums.{PowersOf, SumsOf}

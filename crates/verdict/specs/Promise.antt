@@ -17,7 +17,7 @@ use Rattle.ground.specs.declared.Answer.the-variants.{Refused as AnswerRefused}
 use Rattle.sets.specs.declared.Set.{Set}
 use Rattle.refusals.specs.Rules.{verdictRules}
 use Rattle.refusals.specs.Fits.{verdict-met}
-use Rattle.matrix.specs.AnswerLaws.{number-of-answer, answer-done, answer-refused}
+use Rattle.ground.specs.AnswerLaws.{number-of-answer, answer-done, answer-refused}
 use Rattle.scheme.specs.Maps.{allInvertible}
 use Rattle.scheme.specs.Verdict.{verdictRefusals}
 use Rattle.verdict.specs.declared.Verdict.{Verdict}

@@ -1,10 +1,10 @@
 -- `keys::generate` meets its contract: by the number of the lowest rule, either the whole key is written or nothing.
--- Rests on packing's `writes-by`, sets' `keygen-fits` and on what `write_key` ensures.
+-- Rests on ground's `writes-by`, refusals' `keygen-fits` and on what `write_key` ensures.
 use mathlib.Core.Path.{sym, ap, _∙_}
 use mathlib.Core.Logic.{⊎-elim, ⊎-map}
 use lib.ListN.{length}
 use Rattle.ground.specs.Answers.{answerOf}
-use Rattle.packing.specs.Refusals.{writes-by}
+use Rattle.ground.specs.Outcome.{writes-by}
 use Rattle.sets.specs.Bounds.{bounds}
 use Rattle.refusals.specs.Fits.{keygen-fits}
 use Rattle.scheme.specs.Verdict.{keygenRefusals}

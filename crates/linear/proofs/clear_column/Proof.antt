@@ -6,7 +6,8 @@ use Rattle.rows.specs.PlusRows.{PlusRows, rows-none}
 use Rattle.linear.specs.System.{at}
 use Rattle.linear.specs.Step.{factor}
 use Rattle.linear.specs.Row.{rowAt, gained}
-use Rattle.linear.specs.Frame.{rows-end, cleared-next, Within, within}
+use Rattle.rows.specs.RowsJoin.{rows-end}
+use Rattle.linear.specs.Frame.{cleared-next, Within, within}
 use borrow.Author.Needs.{needs}
 use native.Mathlib.Omega.{arith}
 use Rattle.linear.proofs.clear_column.Statement.{statement}

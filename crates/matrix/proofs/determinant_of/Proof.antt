@@ -4,7 +4,7 @@ use native.Mathlib.Omega.{arith}
 use borrow.Author.Needs.{needs}
 use Rattle.ground.specs.Answers.{numberOf}
 use Rattle.matrix.specs.declared.Value.the-variants.{Is, Refused}
-use Rattle.matrix.specs.AnswerLaws.{number-of-answer, answer-done, answer-refused}
+use Rattle.ground.specs.AnswerLaws.{number-of-answer, answer-done, answer-refused}
 use Rattle.matrix.specs.LimitLaws.{allowed-most}
 use Rattle.matrix.specs.PromiseLaws.{matrix-met}
 use Rattle.matrix.proofs.determinant_of.Statement.{statement}

@@ -2,7 +2,7 @@
 use mathlib.Core.Path.{_∙_}
 use native.Mathlib.Omega.{arith}
 use borrow.Author.Needs.{needs}
-use Rattle.matrix.specs.AnswerLaws.{answer-done, answer-refused}
+use Rattle.ground.specs.AnswerLaws.{answer-done, answer-refused}
 use Rattle.matrix.specs.LimitLaws.{allowed-most}
 use Rattle.matrix.specs.PromiseLaws.{makes-refused, matrix-met, invertible-asked, invertible-stands}
 use Rattle.matrix.proofs.make_invertible.Statement.{statement}

@@ -2,7 +2,7 @@
 use mathlib.Core.Path.{refl, _∙_}
 use native.Mathlib.Omega.{arith}
 use borrow.Author.Needs.{needs}
-use Rattle.matrix.specs.AnswerLaws.{answer-done, answer-refused}
+use Rattle.ground.specs.AnswerLaws.{answer-done, answer-refused}
 use Rattle.matrix.specs.LimitLaws.{allowed-least, allowed-most, coefficients-lt}
 use Rattle.matrix.specs.PromiseLaws.{makes-done, makes-refused, coefficients-met}
 use Rattle.matrix.proofs.ring_element.Statement.{statement}

@@ -4,7 +4,8 @@ use mathlib.Core.Path.{sym, ap, _∙_}
 use mathlib.Core.Logic.{⊎-elim, ⊎-map}
 use lib.ListN.{length}
 use Rattle.ground.specs.Answers.{answerOf}
-use Rattle.packing.specs.Refusals.{writes-by, unpack-allowed}
+use Rattle.ground.specs.Outcome.{writes-by}
+use Rattle.packing.specs.Refusals.{unpack-allowed}
 use borrow.Author.Needs.{needs}
 use Rattle.packing.proofs.unpack.Statement.{statement}
 use Rattle.packing.proofs.unpack.Tie as tie

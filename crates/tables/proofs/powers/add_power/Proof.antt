@@ -6,7 +6,7 @@ use Rattle.ground.specs.Place.{row-fits}
 use Rattle.matrix.specs.RingElements.{powerS}
 use Rattle.matrix.specs.Block.{length-block}
 use Rattle.rows.specs.PlusRows.{PlusRows, rows-none, rows-next}
-use Rattle.tables.specs.RowsJoin.{rows-end}
+use Rattle.rows.specs.RowsJoin.{rows-end}
 use Rattle.tables.specs.PowerBlocks.{power-gains}
 use borrow.Author.Needs.{needs}
 use native.Mathlib.Omega.{arith}

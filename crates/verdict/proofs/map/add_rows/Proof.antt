@@ -1,7 +1,7 @@
 -- `verdict::map::add_rows` meets its contract. The invariant: the first r rows are added. Rests on MapRows and rows' PlusRows.
 use Prim.Native.Nat.{_-_, _*_, _≤_}
 use Rattle.rows.specs.PlusRows.{PlusRows, rows-none}
-use Rattle.tables.specs.RowsJoin.{rows-end}
+use Rattle.rows.specs.RowsJoin.{rows-end}
 use Rattle.verdict.specs.MapRows.{splitRow, rows-more}
 use borrow.Author.Needs.{needs}
 use native.Mathlib.Omega.{arith}

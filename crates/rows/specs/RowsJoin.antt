@@ -1,5 +1,5 @@
 -- Rows that gain after rows that gained: the two runs are one. And the end of a loop over rows.
--- Rests on rows' PlusRows, and belongs beside it.
+-- Rests on PlusRows.
 use mathlib.Core.Path.{_≡_, sym, ap, subst, _∙_}
 use mathlib.Core.List.{List}
 use Prim.Native.Nat.{ℕ, _+_, _-_, _*_, _<_, _≤_}

@@ -1,13 +1,13 @@
--- An answer and its number say the same. These laws are about ground's answers alone.
--- Rests on ground's Answers.
+-- An answer and its number say the same.
+-- Rests on Answers.
 use mathlib.Core.Path.{_≡_, sym, ap, _∙_}
 use Prim.Native.Nat.{ℕ}
 use native.Mathlib.Decide.{ℕ-discrete}
 use native.Mathlib.Omega.{arith}
 use borrow.Author.Tests.{eq-eqb, ne-eqb}
 use Rattle.ground.specs.Answers.{answerOf, numberOf}
 use Rattle.ground.specs.declared.Answer.{Answer}
 use Rattle.ground.specs.declared.Answer.the-variants.{Done, Refused}
 
 pub number-of-answer : (n : ℕ) → numberOf (answerOf n) ≡ n
 number-of-answer n = elim (ℕ-discrete n 0) [ yes e ↦ rw (eq-eqb n 0 e) (sym e) | no e ↦ rw (ne-eqb n 0 e) ]
