@@ -58,3 +58,18 @@ pub allowed-cases : allowedSet (setOf 60 10 4)
     ≡ true ∷ false ∷ false ∷ false ∷ false ∷ false ∷ false ∷ false ∷ []
 unfolding allowedSet
 allowed-cases = refl
+
+-- the nine round 2 sets with l up to 4 fit
+pub round-2-sets : allowedSet (setOf 37 17 2)
+    ∷ allowedSet (setOf 25 8 3)
+    ∷ allowedSet (setOf 24 5 4)
+    ∷ allowedSet (setOf 56 25 2)
+    ∷ allowedSet (setOf 49 11 3)
+    ∷ allowedSet (setOf 37 8 4)
+    ∷ allowedSet (setOf 75 33 2)
+    ∷ allowedSet (setOf 66 15 3)
+    ∷ allowedSet (setOf 60 10 4)
+    ∷ []
+    ≡ true ∷ true ∷ true ∷ true ∷ true ∷ true ∷ true ∷ true ∷ true ∷ []
+unfolding allowedSet
+round-2-sets = refl

@@ -1,0 +1,119 @@
+-- `snova::sign_and_verify` meets its contract: each return is one way that the calls can go, by what the callees ensure.
+-- Rests on Ways; a signature that was emitted is accepted, so the last return is never not accepted.
+use Rattle.snova.specs.Ways.{way-key-refused, way-sign-refused, way-redo, way-accepted}
+use borrow.Author.Needs.{needs}
+use Rattle.snova.proofs.chain.sign_and_verify.Statement.{statement}
+use Rattle.snova.proofs.chain.sign_and_verify.Tie as tie
+
+generate-requires : tie.Need-generate-requires
+generate-requires c κs = search needs
+
+enum-told : tie.Need-enum-told
+enum-told c = search needs
+
+enum-told-2 : tie.Need-enum-told-2
+enum-told-2 c = search needs
+
+number-requires : tie.Need-number-requires
+number-requires c κs = search needs
+
+same-length : tie.Need-same-length
+same-length c = search needs
+
+returns : tie.Need-returns
+returns c = way-key-refused (c .before .before .before .before .before .generate .ensures) (c .before .enum-told2 .given .1) (c .number .ensures)
+
+sign-requires : tie.Need-sign-requires
+sign-requires c κs = search needs
+
+enum-known-signed : tie.Need-enum-known-signed
+enum-known-signed c = search needs
+
+enum-told-3 : tie.Need-enum-told-3
+enum-told-3 c = search needs
+
+enum-told-4 : tie.Need-enum-told-4
+enum-told-4 c = search needs
+
+verify-requires : tie.Need-verify-requires
+verify-requires c κs = search needs
+
+judged-requires : tie.Need-judged-requires
+judged-requires c κs = search needs
+
+same-length-2 : tie.Need-same-length-2
+same-length-2 c = search needs
+
+same-length-3 : tie.Need-same-length-3
+same-length-3 c = search needs
+
+same-length-4 : tie.Need-same-length-4
+same-length-4 c = search needs
+
+returns-2 : tie.Need-returns-2
+returns-2 c =
+    let signing = c .before .before .before .before .before .before .before in
+    let told = signing .before .before .before in
+    let keygen = told .before .before .before .before in
+    way-sign-refused (keygen .generate .ensures) (told .enum-told .given .1) (signing .sign .ensures) (c .before .signed .given .1)
+
+same-length-5 : tie.Need-same-length-5
+same-length-5 c = search needs
+
+same-length-6 : tie.Need-same-length-6
+same-length-6 c = search needs
+
+same-length-7 : tie.Need-same-length-7
+same-length-7 c = search needs
+
+returns-3 : tie.Need-returns-3
+returns-3 c =
+    let signing = c .before .before .before .before .before .before in
+    let told = signing .before .before .before in
+    let keygen = told .before .before .before .before in
+    way-redo (keygen .generate .ensures) (told .enum-told .given .1) (signing .sign .ensures) (c .enum-told3 .given .1)
+
+same-length-8 : tie.Need-same-length-8
+same-length-8 c = search needs
+
+same-length-9 : tie.Need-same-length-9
+same-length-9 c = search needs
+
+same-length-10 : tie.Need-same-length-10
+same-length-10 c = search needs
+
+returns-4 : tie.Need-returns-4
+returns-4 c =
+    let signing = c .before .before .before .before .before .before .before .before .before .before in
+    let told = signing .before .before .before in
+    let keygen = told .before .before .before .before in
+    way-accepted (keygen .generate .ensures) (told .enum-told .given .1) (signing .sign .ensures) (c .before .before .before .before .enum-told4 .given .1) (c .before .verify .ensures) (c .judged .ensures)
+
+pub sign-and-verify-spec : {M : Type 1} → statement M
+sign-and-verify-spec =
+    tie.close
+    (tie.spec
+    generate-requires
+    enum-told
+    enum-told-2
+    number-requires
+    same-length
+    returns
+    sign-requires
+    enum-known-signed
+    enum-told-3
+    enum-told-4
+    verify-requires
+    judged-requires
+    same-length-2
+    same-length-3
+    same-length-4
+    returns-2
+    same-length-5
+    same-length-6
+    same-length-7
+    returns-3
+    same-length-8
+    same-length-9
+    same-length-10
+    returns-4)
