@@ -1,10 +1,10 @@
 -- What signing emits under the generated key is accepted: its length and the key's are those that the verdict asks for, nothing else is refused, and the map meets the target.
 -- Rests on signing's `signed-accepted`, and on sets' exact lengths.
-use mathlib.Core.Path.{_≡_, refl, sym, ap, ap₂, subst, _∙_}
+use mathlib.Core.Path.{_≡_, refl, sym, ap, _∙_}
 use mathlib.Core.Bool.{Bool, true, false}
 use mathlib.Core.Logic.{_↔_}
-use mathlib.Core.List.{List, [], _∷_, _++_}
-use Prim.Native.Nat.{ℕ, _+_}
+use mathlib.Core.List.{List, [], _∷_}
+use Prim.Native.Nat.{ℕ}
 use native.Mathlib.Decide.{ℕ-discrete}
 use native.Mathlib.Omega.{arith}
 use borrow.Author.Tests.{eq-eqb, ne-eqb}
@@ -18,14 +18,13 @@ use Rattle.ground.specs.declared.Answer.the-variants as Answers
 use Rattle.packing.specs.Packing.{packedBytes}
 use Rattle.packing.specs.Laws.{length-packed}
 use Rattle.sets.specs.declared.Set.{Set}
-use Rattle.sets.specs.Sets.{signatureCount, signatureBytes, saltBytes}
-use Rattle.sets.specs.Rules.{verdictRules}
-use Rattle.sets.specs.Fits.{verdict-met, verdict-exact}
+use Rattle.sets.specs.Sets.{signatureBytes, saltBytes}
+use Rattle.refusals.specs.Fits.{verdict-met, verdict-exact}
 use Rattle.matrix.specs.Matrix.{Matrix}
-use Rattle.matrix.specs.AnswerLaws.{number-of-answer}
+use Rattle.ground.specs.AnswerLaws.{number-of-answer}
 use Rattle.scheme.specs.Maps.{keyOf}
 use Rattle.scheme.specs.Key.{length-keyOf}
-use Rattle.scheme.specs.Verdict.{keygenRefusals, verdictRefusals, accepted}
+use Rattle.scheme.specs.Verdict.{verdictRefusals}
 use Rattle.verdict.specs.declared.Verdict.{Verdict}
 use Rattle.verdict.specs.declared.Verdict.the-variants.{Accepted, NotAccepted}
 use Rattle.verdict.specs.Promise.{verdictOf}
@@ -52,7 +51,7 @@ module _ {refusal : ℕ} {result before : List ℕ} {r : Answer} {after : List �
 
 module _ (refusal : ℕ) (ok : Bool) where
   -- 0 exactly where nothing is refused and the comparison holds
-  pub verdict-zero : (verdictNumber (verdictOf refusal ok) ≡ 0) ↔ (refusal ≡ 0) × (ok ≡ true)
+  pub verdict-zero : (verdictNumber (verdictOf refusal ok) ≡ 0) ↔ ((refusal ≡ 0) × (ok ≡ true))
   verdict-zero = (by, λ e. rw (eq-eqb refusal 0 (e .0), e .1))
     where
       compared : (b : Bool) → verdictNumber (pick b Accepted NotAccepted) ≡ 0 → b ≡ true

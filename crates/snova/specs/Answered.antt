@@ -5,7 +5,7 @@ use mathlib.Core.Bool.{Bool, true, false}
 use mathlib.Core.Logic.{_↔_, _⊎_, inl, inr, ⊎-elim}
 use mathlib.Core.List.{List, [], _∷_, _++_, List·Memᴰ, List·Memᴰ·head, List·Memᴰ·tail, List·Memᴰ·cases-cons, Memᴰ·cast, Memᴰ·append-left, Memᴰ·append-right}
 use Prim.Native.Nat.{ℕ, _<_, _≤_}
-use native.Mathlib.Decide.{ℕ-discrete, decLt}
+use native.Mathlib.Decide.{ℕ-discrete}
 use native.Mathlib.Omega.{arith}
 use lib.Dec.{T}
 use lib.ListN.{length}
@@ -14,8 +14,8 @@ use Rattle.ground.specs.Answers.{Rule, lowest, numberOf, answerOf}
 use Rattle.ground.specs.Outcome.{Writes}
 use Rattle.ground.specs.declared.Answer.{Answer}
 use Rattle.sets.specs.declared.Set.{Set}
-use Rattle.sets.specs.Lowest.{numbers, lowest-listed}
-use Rattle.matrix.specs.AnswerLaws.{number-of-answer}
+use Rattle.ground.specs.Lowest.{numbers, lowest-listed}
+use Rattle.ground.specs.AnswerLaws.{number-of-answer}
 use Rattle.verdict.specs.declared.Verdict.{Verdict}
 use Rattle.verdict.specs.Promise.{verdictOf}
 use Rattle.verdict.specs.Promise.{numberOf as verdictNumber}

@@ -1,6 +1,5 @@
 -- What key generation, signing and the verdict promise together, called one after the other on the same streams: each way that it can go, and no other.
 -- Rests on the promises of the three. No way ends in not accepted.
-use mathlib.Core.Path.{_≡_}
 use mathlib.Core.List.{List}
 use Prim.Native.Nat.{ℕ}
 use Rattle.ground.specs.declared.Answer.the-variants as Answers

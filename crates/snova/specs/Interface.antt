@@ -4,13 +4,10 @@ use mathlib.Core.Path.{_≡_}
 use mathlib.Core.List.{List}
 use Prim.Native.Nat.{ℕ}
 use Rattle.ground.specs.Answers.{numberOf}
-use Rattle.ground.specs.declared.Answer.{Answer}
 use Rattle.packing.specs.Packing.{Packs, Unpacks}
 use Rattle.sets.specs.declared.Set.{Set}
 use Rattle.keys.specs.Generates.{Generates}
-use Rattle.verdict.specs.declared.Verdict.{Verdict}
 use Rattle.verdict.specs.Promise.{numberOf as verdictNumber}
-use Rattle.signing.specs.declared.Signing.{Signing}
 use Rattle.signing.specs.Signs.{Signs}
 use Rattle.signing.specs.Signs.{numberOf as signNumber}
 use Rattle.snova.specs.Calls.{Verifies, SaltStatus}

@@ -8,7 +8,7 @@ use Prim.Native.Nat.{ℕ, _<_, _≤_}
 use native.Mathlib.Decide.{ℕ-discrete}
 use native.Mathlib.Omega.{arith}
 use lib.Dec.{T, ltb, ltb→lt}
-use Rattle.ground.specs.Pick.{pick, both}
+use Rattle.ground.specs.Pick.{both}
 use Rattle.ground.specs.Answers.{Rule, lowest}
 
 -- refusal n applies: there is a rule with this number whose condition is not met

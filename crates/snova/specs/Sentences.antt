@@ -11,11 +11,11 @@ use Rattle.ground.specs.declared.Answer.the-variants as Answers
 use Rattle.packing.specs.Packing.{packRules, unpackRules, Packs, Unpacks}
 use Rattle.packing.specs.RoundTrip.{pack-then-unpack}
 use Rattle.sets.specs.declared.Set.{Set}
-use Rattle.sets.specs.Rules.{keygenRules, signRules, verdictRules, saltRules}
+use Rattle.refusals.specs.Rules.{keygenRules, signRules, verdictRules, saltRules}
 use Rattle.matrix.specs.Matrix.{Matrix}
 use Rattle.matrix.specs.Same.{Same}
 use Rattle.scheme.specs.Streams.{P22, targetOf, vinegarOf, signatureOf}
-use Rattle.scheme.specs.Maps.{keyP22, keyOf, publicMap, centralMap, privateChange}
+use Rattle.scheme.specs.Maps.{keyP22, publicMap, centralMap, privateChange}
 use Rattle.scheme.specs.Key.{key-composition, keyOf-holds}
 use Rattle.scheme.specs.Oil.{Redo}
 use Rattle.scheme.specs.Verdict.{keygenRefusals, verdictRefusals, accepted-exactly}
@@ -70,7 +70,7 @@ pub record Sentence2 : Type 0 where
   pub key : (set : Set) (public private key : List ℕ) (r : Answer) (key′ : List ℕ) → Generates set public private key r key′ → numberOf r ≡ 0
       → (i j k : ℕ) → i < set .o → j < set .o → k < set .o → Same (set .l) (P22 set key′ i j k) (keyP22 set public private i j k)
   pub accepted : (set : Set) (public abq target key signature : List ℕ) (r : Verdict) → Verifies set public abq target key signature r
-      → (verdictNumber r ≡ 0) ↔ NoneApplies (verdictRefusals set public abq target key signature) × EveryEntryEqual set public abq target key signature
+      → (verdictNumber r ≡ 0) ↔ (NoneApplies (verdictRefusals set public abq target key signature) × EveryEntryEqual set public abq target key signature)
   pub unpacked : (elements bytes : List ℕ) (r : Answer) (bytes′ : List ℕ) → Packs elements bytes r bytes′ → numberOf r ≡ 0
       → (room : List ℕ) (r′ : Answer) (room′ : List ℕ) → Unpacks bytes′ room r′ room′ → length room ≡ length elements → (numberOf r′ ≡ 0) × (room′ ≡ elements)
 
@@ -98,7 +98,8 @@ sentence-1 = record {
   sign = λ set public abq private vinegar target salt work output r work′ output′ s. sign-answered s tt;
   wiped = λ set public abq private vinegar target salt work output r work′ output′ s w. sign-wiped s tt w;
   redo-kept = λ set public abq private vinegar target salt work output r work′ output′ s e. sign-kept s tt e;
-  verify = λ set public abq target key signature r v. verdict-answered (verdictRefusals set public abq target key signature) tt (acceptedTest set public abq key signature target) v;
+  verify = λ set public abq target key signature r v.
+      verdict-answered (verdictRefusals set public abq target key signature) tt (acceptedTest set public abq key signature target) v;
   salt-status = λ set signature r e. status-answered (saltRules set (length signature)) tt e;
   pack = λ elements bytes r bytes′ p. writes-answered (packRules elements bytes) tt p;
   unpack = λ bytes elements r elements′ u. writes-answered (unpackRules bytes elements) tt u;
@@ -107,7 +108,8 @@ sentence-1 = record {
 pub sentence-2 : Sentence2
 unfolding verdictRefusals verdictRules
 sentence-2 = record {
-  key = λ set public private key r key′ g e. subst (λ k. (i j n : ℕ) → i < set .o → j < set .o → n < set .o → Same (set .l) (P22 set k i j n) (keyP22 set public private i j n)) (sym (written-zero g e)) (keyOf-holds set public private);
+  key = λ set public private key r key′ g e i j k hi hj hk.
+      subst (λ s. Same (set .l) (P22 set s i j k) (keyP22 set public private i j k)) (sym (written-zero g e)) (keyOf-holds set public private i j k hi hj hk);
   accepted = λ set public abq target key signature r v.
       let rules = verdictRefusals set public abq target key signature in
       let test = acceptedTest set public abq key signature target in

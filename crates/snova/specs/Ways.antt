@@ -21,7 +21,8 @@ use Rattle.snova.specs.Chain.{SignsAndVerifies, key-refused, sign-refuse
 
 module _ {set : Set} {public abq private vinegar target salt work key output : List ℕ} {g : Answer} {key′ : List ℕ} (generated : Generates set public private key g key′) where
   -- key generation's refusal, handed up
-  pub way-key-refused : {n k : ℕ} → g ≡ Answers.Refused k → n ≡ numberOf g → SignsAndVerifies set public abq private vinegar target salt work key output (Refused n) work key′ output
+  pub way-key-refused : {n k : ℕ} → g ≡ Answers.Refused k → n ≡ numberOf g
+      → SignsAndVerifies set public abq private vinegar target salt work key output (Refused n) work key′ output
   way-key-refused {n} {k} is number =
       let e : k ≡ n = sym (number ∙ ap numberOf is) in
       key-refused (subst (λ a. Generates set public private key a key′) (is ∙ ap Answers.Refused e) generated)
@@ -42,6 +43,7 @@ module _ {set : Set} {public abq private vinegar target salt work key output : L
         → SignsAndVerifies set public abq private vinegar target salt work key output r work′ key′ signature
     way-accepted {v} {r} is verified r-is =
         let emitted = subst (λ a. Signs set public abq private vinegar target salt work output a work′ signature) is signed in
-        let yes : v ≡ Verdicts.Accepted = emitted-verdict set public abq private vinegar target salt work output emitted (subst (λ k. Verifies set public abq target k signature v) (written-zero made refl) verified) in
+        let under-key = subst (λ k. Verifies set public abq target k signature v) (written-zero made refl) verified in
+        let yes : v ≡ Verdicts.Accepted = emitted-verdict set public abq private vinegar target salt work output emitted under-key in
         subst (λ o. SignsAndVerifies set public abq private vinegar target salt work key output o work′ key′ signature) (sym (r-is ∙ ap outcomeOf yes))
         (accepted made emitted (subst (λ w. Verifies set public abq target key′ signature w) yes verified))

@@ -5,26 +5,17 @@ use borrow.Author.Needs.{needs}
 use Rattle.snova.proofs.chain.sign_and_verify.Statement.{statement}
 use Rattle.snova.proofs.chain.sign_and_verify.Tie as tie
 
-generate-requires : tie.Need-generate-requires
-generate-requires c κs = search needs
-
 enum-told : tie.Need-enum-told
 enum-told c = search needs
 
 enum-told-2 : tie.Need-enum-told-2
 enum-told-2 c = search needs
 
-number-requires : tie.Need-number-requires
-number-requires c κs = search needs
-
 same-length : tie.Need-same-length
 same-length c = search needs
 
 returns : tie.Need-returns
 returns c = way-key-refused (c .before .before .before .before .before .generate .ensures) (c .before .enum-told2 .given .1) (c .number .ensures)
-
-sign-requires : tie.Need-sign-requires
-sign-requires c κs = search needs
 
 enum-known-signed : tie.Need-enum-known-signed
 enum-known-signed c = search needs
@@ -34,12 +25,6 @@ enum-told-3 c = search needs
 
 enum-told-4 : tie.Need-enum-told-4
 enum-told-4 c = search needs
-
-verify-requires : tie.Need-verify-requires
-verify-requires c κs = search needs
-
-judged-requires : tie.Need-judged-requires
-judged-requires c κs = search needs
 
 same-length-2 : tie.Need-same-length-2
 same-length-2 c = search needs
@@ -87,24 +72,25 @@ returns-4 c =
     let signing = c .before .before .before .before .before .before .before .before .before .before in
     let told = signing .before .before .before in
     let keygen = told .before .before .before .before in
-    way-accepted (keygen .generate .ensures) (told .enum-told .given .1) (signing .sign .ensures) (c .before .before .before .before .enum-told4 .given .1) (c .before .verify .ensures) (c .judged .ensures)
+    let emitted = c .before .before .before .before .enum-told4 .given .1 in
+    way-accepted (keygen .generate .ensures) (told .enum-told .given .1) (signing .sign .ensures) emitted (c .before .verify .ensures) (c .judged .ensures)
 
 pub sign-and-verify-spec : {M : Type 1} → statement M
 sign-and-verify-spec =
     tie.close
     (tie.spec
-    generate-requires
+    (λ _ _. tt)
     enum-told
     enum-told-2
-    number-requires
+    (λ _ _. tt)
     same-length
     returns
-    sign-requires
+    (λ _ _. tt)
     enum-known-signed
     enum-told-3
     enum-told-4
-    verify-requires
-    judged-requires
+    (λ _ _. tt)
+    (λ _ _. tt)
     same-length-2
     same-length-3
     same-length-4

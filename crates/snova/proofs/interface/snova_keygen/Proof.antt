@@ -3,12 +3,6 @@ use borrow.Author.Needs.{needs}
 use Rattle.snova.proofs.interface.snova_keygen.Statement.{statement}
 use Rattle.snova.proofs.interface.snova_keygen.Tie as tie
 
-generate-requires : tie.Need-generate-requires
-generate-requires c κs = search needs
-
-number-requires : tie.Need-number-requires
-number-requires c κs = search needs
-
 same-length : tie.Need-same-length
 same-length c = search needs
 
@@ -16,4 +10,4 @@ returns : tie.Need-returns
 returns c = let called = c .before .before .before .generate in record { answer = called .result; meets = called .ensures; is = c .number .ensures }
 
 pub snova-keygen-spec : {M : Type 1} → statement M
-snova-keygen-spec = tie.close (tie.spec generate-requires number-requires same-length returns)
+snova-keygen-spec = tie.close (tie.spec (λ _ _. tt) (λ _ _. tt) same-length returns)

@@ -3,12 +3,6 @@ use borrow.Author.Needs.{needs}
 use Rattle.snova.proofs.interface.snova_sign.Statement.{statement}
 use Rattle.snova.proofs.interface.snova_sign.Tie as tie
 
-sign-requires : tie.Need-sign-requires
-sign-requires c κs = search needs
-
-number-requires : tie.Need-number-requires
-number-requires c κs = search needs
-
 same-length : tie.Need-same-length
 same-length c = search needs
 
@@ -19,4 +13,4 @@ returns : tie.Need-returns
 returns c = let called = c .before .before .before .before .before .sign in record { answer = called .result; meets = called .ensures; is = c .number .ensures }
 
 pub snova-sign-spec : {M : Type 1} → statement M
-snova-sign-spec = tie.close (tie.spec sign-requires number-requires same-length same-length-2 returns)
+snova-sign-spec = tie.close (tie.spec (λ _ _. tt) (λ _ _. tt) same-length same-length-2 returns)

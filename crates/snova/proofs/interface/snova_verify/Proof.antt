@@ -1,16 +1,9 @@
 -- `snova::snova_verify` meets its contract: the number of the answer that `verdict::verify` gave.
-use borrow.Author.Needs.{needs}
 use Rattle.snova.proofs.interface.snova_verify.Statement.{statement}
 use Rattle.snova.proofs.interface.snova_verify.Tie as tie
-
-verify-requires : tie.Need-verify-requires
-verify-requires c κs = search needs
-
-number-requires : tie.Need-number-requires
-number-requires c κs = search needs
 
 returns : tie.Need-returns
 returns c = let called = c .before .verify in record { answer = called .result; meets = called .ensures; is = c .number .ensures }
 
 pub snova-verify-spec : {M : Type 1} → statement M
-snova-verify-spec = tie.close (tie.spec verify-requires number-requires returns)
+snova-verify-spec = tie.close (tie.spec (λ _ _. tt) (λ _ _. tt) returns)
