@@ -13,6 +13,7 @@ pub mod Steps
 pub mod LimitLaws
 pub mod PromiseLaws
 pub mod InvertibleLaws
+pub mod Trial
 pub mod Searching
 pub mod RingSteps
 pub mod Facts

@@ -1,6 +1,6 @@
 -- The search of Algorithm 2, as the code does it: which shift is being tried, and that no earlier one served.
--- Rests on InvertibleLaws and Block.
-use mathlib.Core.Path.{_≡_, sym, ap, _∙_}
+-- Rests on InvertibleLaws, Block and Trial.
+use mathlib.Core.Path.{_≡_, sym, ap, subst, _∙_}
 use mathlib.Core.Bool.{true, false}
 use mathlib.Core.List.{List}
 use Prim.Native.Nat.{ℕ, suc, _+_, _-_, _≤_}
@@ -10,6 +10,8 @@ use Rattle.matrix.specs.Determinant.{det, det-same}
 use Rattle.matrix.specs.Invertible.{invertible, shift, firstFrom, shiftOf, canBeInvertible, algorithm2}
 use Rattle.matrix.specs.InvertibleLaws.{invertible-no, invertible-yes, first-found, first-next, shift-stays, algorithm2-stays, found-can, none-can, found-is}
 use Rattle.matrix.specs.Block.{view, block, holds}
+use Rattle.matrix.specs.declared.invertible.Trial.{Trial}
+use Rattle.matrix.specs.Trial.{NextTrial}
 
 -- `tried` holds M + a·S, and Algorithm 2's shift is the first from a on that serves
 pub record Searching (l : ℕ) (M : Matrix) (a : ℕ) (tried : List ℕ) : Type 0 where
@@ -46,6 +48,13 @@ searching-next {l} {M} {a} h s z n is =
       first = s .first ∙ ap (λ k. firstFrom l M k a) (left (s .high)) ∙ first-next l M (15 - a) a (invertible-no l _ (sym (tried-det h s) ∙ z))
           ∙ ap (λ k. firstFrom l M k (a + 1)) fewer;
     }
+
+-- the next try goes on with the search, since its original is the one that was given
+pub next-searching : {l : ℕ} {m : List ℕ} {trial next : Trial} → l ≤ 5 → (trial .original ≡ m) × Searching l (view m) (trial .a) (trial .tried)
+    → det l (view (trial .tried)) ≡ 0 → (trial .a ≡ 15 → ⊥) → NextTrial l trial next → Searching l (view m) (next .a) (next .tried)
+next-searching {l} {m} {trial} {next} h s z n is =
+    subst (λ a. Searching l (view m) a (next .tried)) (sym (is .a))
+    (searching-next h (s .1) z n (is .tried ∙ ap (λ b. block l (shift l (view b) (trial .a + 1))) (s .0)))
 
 -- the shift that is found is Algorithm 2's
 pub searching-found : {l : ℕ} {M : Matrix} {a : ℕ} {tried : List ℕ} → l ≤ 5 → Searching l M a tried → (det l (view tried) ≡ 0 → ⊥)

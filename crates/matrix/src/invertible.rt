@@ -1,10 +1,11 @@
 // Algorithm 2: a matrix with nonzero determinant stays; otherwise M + a·S for the first a from 1 to 15 that gives a nonzero determinant, always from the original M.
 ghost use mathlib.Core.Path.{_≡_};
-ghost use Prim.Native.Nat.{_≤_};
+ghost use Prim.Native.Nat.{_≤_, _<_};
 ghost use Rattle.ground.specs.Pick.{pick};
 ghost use Rattle.matrix.specs.Block.{view, block};
 ghost use Rattle.matrix.specs.Invertible.{shift, canBeInvertible, algorithm2};
 ghost use Rattle.matrix.specs.Promises.{noBlock, Makes};
+ghost use Rattle.matrix.specs.Trial.{NextTrial};
 use super::Made;
 use super::arithmetic::plus;
 use super::arithmetic::scaled;
@@ -34,7 +35,25 @@ pub fn shifted(l: usize, m: Block, a: u8) -> Block
     plus(l, m, scaled(l, a, s_matrix(l)))
 }
 
-// The search of Algorithm 2. It shifts m itself each time, never what was tried before (students' error 3).
+// One try of the search: the original matrix, the shift a, and the original plus a·S.
+pub struct Trial {
+    original: Block,
+    a: u8,
+    tried: Block,
+}
+
+// The next try. It shifts the original by one more, never what was tried before (students' error 3).
+fn next_trial(l: usize, trial: Trial) -> Trial
+    requires { ⌜ (l ≤ 5) × (trial .a < 15) ⌝ }
+    ensures { λ r. ⌜ NextTrial l trial r ⌝ }
+{
+    let original = trial.original;
+    let a = trial.a + 1;
+    let tried = shifted(l, original, a);
+    Trial { original, a, tried }
+}
+
+// The search of Algorithm 2, from a = 1 on.
 pub fn search(l: usize, m: Block) -> Made
     requires { ⌜ l ≤ 5 ⌝ }
     ensures { λ r. ⌜ Makes (pick (canBeInvertible l (view m)) 0 21) (block l (algorithm2 l (view m))) r ⌝ }
@@ -46,18 +65,22 @@ pub fn search(l: usize, m: Block) -> Made
             block: same,
         };
     }
-    let mut a: u8 = 1;
-    let mut tried = shifted(l, m, 1);
+    let first = shifted(l, m, 1);
+    let mut trial = Trial {
+        original: m,
+        a: 1,
+        tried: first,
+    };
     let found = loop {
+        let tried = trial.tried;
         if determinant(l, tried) != 0 {
             break tried;
         }
-        if a == 15 {
+        if trial.a == 15 {
             return refused(Answer::Refused(21));
         }
-        a += 1;
-        let next = shifted(l, m, a);
-        tried = next;
+        let next = next_trial(l, trial);
+        trial = next;
     };
     Made {
         answer: Answer::Done,
