@@ -22,11 +22,11 @@ fn main() {
     for path in sources.iter().chain([&archive]) {
         println!("cargo::rerun-if-changed={}", path.display());
     }
-    if is_stale(&archive, &sources)
-        && let Err(text) = make_library(&root, &archive)
-    {
-        println!("cargo::error={text}");
-        std::process::exit(1);
+    if is_stale(&archive, &sources) {
+        if let Err(text) = make_library(&root, &archive) {
+            println!("cargo::error={text}");
+            std::process::exit(1);
+        }
     }
     let folder = archive.parent().expect("the archive stands in a folder");
     println!("cargo::rustc-link-search=native={}", folder.display());

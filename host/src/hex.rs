@@ -8,7 +8,7 @@ pub fn encode(bytes: &[u8]) -> String {
 /// Reads digits of either case. The text is the reason where it is no hexadecimal.
 pub fn decode(text: &str) -> Result<Vec<u8>, String> {
     let digits: Vec<u8> = text.chars().map(digit).collect::<Result<_, _>>()?;
-    if !digits.len().is_multiple_of(2) {
+    if digits.len() % 2 == 1 {
         return Err(format!("an odd count of hexadecimal digits, {}", digits.len()));
     }
     Ok(digits.chunks(2).map(|pair| pair[0] << 4 | pair[1]).collect())

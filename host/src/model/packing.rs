@@ -49,7 +49,7 @@ impl<'a> Elements<'a> {
 
     pub fn element(&mut self) -> u8 {
         let byte = self.bytes[self.next / 2];
-        let element = if self.next.is_multiple_of(2) { byte & 15 } else { byte >> 4 };
+        let element = if self.next % 2 == 0 { byte & 15 } else { byte >> 4 };
         self.next += 1;
         element
     }
