@@ -40,7 +40,7 @@ impl Answer {
         match self.0 {
             0 => "done, or accepted",
             1 => "not accepted",
-            2 => "redo: this vinegar gives no signature, try another",
+            2 => "redo: try again with another vinegar",
             10 => "the set, or a size l, is outside the limits",
             11 => "length of the public stream is not the exact one",
             12 => "length of the ABQ stream is not the exact one",

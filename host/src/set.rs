@@ -107,18 +107,29 @@ impl fmt::Display for Set {
 impl FromStr for Set {
     type Err = String;
 
-    /// Reads `24,5,4`, `24,5,16,4` and names as `SNOVA_24_5_4` or `snova-24-5-16-4`.
-    /// The set that is read need not be allowed: that is the operations' to refuse.
+    /// Reads `24,5,4`, the paper's `(24, 5, 16, 4)` and `(24,5,16,4)-SNOVA`, and names of files as
+    /// `SNOVA_24_5_4`. The set that is read need not be allowed: that is the operations' to refuse.
     fn from_str(text: &str) -> Result<Set, String> {
         let lower = text.trim().to_ascii_lowercase();
-        let bare = lower.strip_prefix("snova").unwrap_or(&lower);
-        let bare = bare.trim_start_matches(['-', '_']).trim_matches(['(', ')']);
-        let numbers: Result<Vec<usize>, _> =
-            bare.split([',', '-', '_']).map(|word| word.trim().parse()).collect();
+        let bare = match (lower.strip_prefix("snova"), lower.strip_suffix("snova")) {
+            (Some(rest), _) => rest.trim_start_matches(['-', '_']),
+            (None, Some(rest)) => rest.trim_end_matches(['-', '_']),
+            (None, None) => &lower,
+        };
+        let inner = bare.strip_prefix('(').and_then(|rest| rest.strip_suffix(')'));
+        let words = inner.unwrap_or(bare).split([',', '-', '_']);
+        let numbers: Option<Vec<usize>> = words.map(|word| number(word.trim())).collect();
         match numbers.as_deref() {
-            Ok([v, o, l]) | Ok([v, o, 16, l]) => Ok(Set::new(*v, *o, *l)),
-            Ok([_, _, q, _]) => Err(format!("'{text}': only q = 16 is built, not {q}")),
-            _ => Err(format!("'{text}' is no set: write v,o,l as 24,5,4, or SNOVA_24_5_4")),
+            Some([v, o, l] | [v, o, 16, l]) => Ok(Set::new(*v, *o, *l)),
+            Some([_, _, q, _]) => Err(format!("'{text}': only q = 16 is built, not {q}")),
+            _ => Err(format!(
+                "'{text}' is no set: write v,o,l as 24,5,4, or (24,5,16,4), or SNOVA_24_5_4"
+            )),
         }
     }
+}
+
+/// Decimal digits alone: no sign, which `parse` would let pass.
+fn number(word: &str) -> Option<usize> {
+    if word.bytes().all(|byte| byte.is_ascii_digit()) { word.parse().ok() } else { None }
 }

@@ -14,6 +14,10 @@ struct Ran {
 fn snova(line: &str) -> Ran {
     let folder = folder().display().to_string();
     let words = line.split_whitespace().map(|word| word.replace("{}", &folder));
+    run(&words.collect::<Vec<String>>())
+}
+
+fn run(words: &[String]) -> Ran {
     let output = Command::new(env!("CARGO_BIN_EXE_snova"))
         .args(words)
         .stdin(Stdio::null())
@@ -65,7 +69,7 @@ fn help_for_the_tool_and_for_each_subcommand() {
 
 #[test]
 fn sizes_are_page_01s_table() {
-    let table = done("sizes 24,5,4 (25,8,3) SNOVA_37_17_2 snova-1-1-16-2");
+    let table = done("sizes 24,5,4 (25,8,16,3)-SNOVA SNOVA_37_17_2 snova-1-1-16-2");
     let rows: Vec<Vec<&str>> =
         table.lines().map(|line| line.split_whitespace().collect()).collect();
     assert_eq!(rows[1].join(" "), "(24,5,4) 32640 2000 240 192 40 1000 248 12240");
@@ -73,6 +77,8 @@ fn sizes_are_page_01s_table() {
     assert_eq!(rows[3].join(" "), "(37,17,2) 89318 612 629 74 34 9826 124 12240");
     assert_eq!(rows[4].join(" "), "(1,1,2) 6 36 1 2 2 2 20 32");
     assert_eq!(done("sizes").lines().count(), 10);
+    let spaced = run(&["sizes".to_string(), "(24, 5, 16, 4)".to_string()]);
+    assert_eq!(spaced.out, done("sizes 24,5,4"), "the paper's own way to write a set");
     refused("sizes 24,5,4 24,5,5", 10, &["10", "outside the limits", "(24,5,5)"]);
 }
 
@@ -103,7 +109,13 @@ fn refusals_name_argument_number_and_meaning() {
         let texts = [&number.to_string()[..], meaning, argument, given, exact];
         refused(&sign(from, to), number, &texts);
     }
-    refused(&sign("", ""), 2, &["2", "redo"]);
+    refused(&sign("", ""), 2, &["2", "redo", "--vinegar"]);
+    let seeds = "--public-seed zeros:16 --private-seed zeros:32 --document hex:00";
+    let salt = &["17", "not 16 bytes", "--salt has 17 bytes", "takes 16"];
+    refused(&format!("sign 1,1,2 {seeds} --salt zeros:17"), 17, salt);
+    refused(&format!("sign 1,1,5 {seeds} --salt zeros:17"), 10, &["10", "(1,1,5)"]);
+    let target = "--public-seed zeros:16 --document hex:00 --salt zeros:17";
+    refused(&format!("streams 1,1,2 target {target}"), 17, salt);
     refused(&format!("sign 76,1,2 {streams}"), 10, &["10", "SET", "(76,1,2)"]);
     let verify = "verify 1,1,2 --public zeros:6 --abq zeros:36 --target zeros:2";
     refused(
@@ -150,6 +162,11 @@ fn wrong_command_lines_are_64_and_name_the_word() {
     refused("salt --signature zeros:1", 64, &["SET is missing"]);
     refused("salt 24,5 --signature zeros:1", 64, &["'24,5' is no set"]);
     refused("salt 24,5,17,4 --signature zeros:1", 64, &["only q = 16"]);
+    for word in
+        ["-24,5,4", "+24,5,4", "24,5,4,", "(24,5,4", "2snova4,5,4", "24,5,16,4,1", "0x1,1,2"]
+    {
+        refused(&format!("sizes {word}"), 64, &[&format!("'{word}' is no set")]);
+    }
     refused("salt 24,5,4 more --signature zeros:1", 64, &["'more' is one word too many"]);
     refused("salt 24,5,4 --signature hex:0", 64, &["--signature", "odd count"]);
     refused("salt 24,5,4 --signature hex:0G", 64, &["--signature", "'G'"]);
@@ -160,11 +177,35 @@ fn wrong_command_lines_are_64_and_name_the_word() {
     refused("keygen 1,1,2", 64, &["--public or --public-seed is missing"]);
     let seeds = "--public-seed zeros:15 --private-seed zeros:32";
     refused(&format!("keygen 1,1,2 {seeds}"), 64, &["--public-seed has 15 bytes", "16"]);
+    let seeds = "--public-seed zeros:16 --private-seed zeros:31";
+    refused(&format!("keygen 1,1,2 {seeds}"), 64, &["--private-seed has 31 bytes", "32"]);
+    refused("kat write 24,5,4 --dir {}/absent", 74, &["--dir", "is no folder"]);
+    refused("kat write 24,5,4", 64, &["--dir is missing"]);
+    refused("bench 24,5,4 --runs 0", 64, &["--runs 0"]);
+    refused(
+        "streams 24,5,4 vinegar --private-seed zeros:32 --document hex: --salt zeros:16 --try 0",
+        64,
+        &["--try 0"],
+    );
     let out = "--public hex:011000000000 --private hex:15 --out {}/absent/key";
     refused(&format!("keygen 1,1,2 {out}"), 74, &["--out", "cannot write"]);
     refused("streams 24,5,4 oil", 64, &["'oil' is no stream"]);
     refused("bench one 24,5,4 nap 1", 64, &["OPERATION 'nap'"]);
     refused("kat check", 64, &["check FILE"]);
+}
+
+/// A reader that goes away early, as `head` does, is no failure and no panic.
+#[test]
+fn a_closed_standard_output_is_no_failure() {
+    let mut child = Command::new(env!("CARGO_BIN_EXE_snova"))
+        .args(["sizes"])
+        .stdout(Stdio::piped())
+        .stderr(Stdio::piped())
+        .spawn()
+        .expect("snova runs");
+    drop(child.stdout.take());
+    let output = child.wait_with_output().expect("it ends");
+    assert_eq!((output.status.code(), output.stderr), (Some(0), vec![]));
 }
 
 /// From seeds: key, signature, verdict, salt; and the same by way of the streams.
@@ -228,6 +269,7 @@ fn response_files_are_written_and_checked() {
     let ran = snova("kat check {}/damaged.rsp");
     assert_eq!(ran.status, 1);
     assert!(ran.out.contains("entry 1: pk: "), "{}", ran.out);
+    assert!(ran.out.contains("1 of 2 entries agree"), "{}", ran.out);
     std::fs::write(folder().join("broken.rsp"), "count = 0\nseed = 0\n").expect("a file");
     refused("kat check {}/broken.rsp", 74, &["line 2", "odd count"]);
 }

@@ -2,6 +2,7 @@
 
 use super::args::{Args, Command, ENGINE, opt, read_set};
 use super::failure::Failure;
+use super::output;
 use super::progress::Progress;
 use crate::answer::Answer;
 use crate::bench::{self, Bench, Line, Operation};
@@ -51,11 +52,8 @@ fn table(args: &Args, sets: &[Set]) -> Result<Answer, Failure> {
         }
     }
     drop(progress);
-    println!("{}\n", bench::conditions(runs));
-    print!(
-        "{}",
-        if args.flag("--markdown") { bench::markdown(&lines) } else { bench::text(&lines) }
-    );
+    let table = if args.flag("--markdown") { bench::markdown(&lines) } else { bench::text(&lines) };
+    output::print(&format!("{}\n\n{table}", bench::conditions(runs)))?;
     Ok(Answer::DONE)
 }
 
@@ -76,6 +74,6 @@ fn one(args: &Args, words: &[String]) -> Result<Answer, Failure> {
         bench.run(operation, engine);
     }
     let each = start.elapsed().as_secs_f64() * 1e3 / f64::from(iterations.max(1));
-    println!("{set} {operation} {engine}: {iterations} times, {each:.3} ms each");
+    output::print(&format!("{set} {operation} {engine}: {iterations} times, {each:.3} ms each\n"))?;
     Ok(Answer::DONE)
 }

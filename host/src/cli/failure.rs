@@ -1,7 +1,7 @@
 //! What the tool says when it does not do what was asked, and the exit status for it.
 
 use crate::answer::Answer;
-use crate::set::Set;
+use crate::set::{SALT, Set};
 
 /// Exit statuses beside page 01's numbers: a wrong command line, a file that fails.
 pub const USAGE: i32 = 64;
@@ -35,9 +35,16 @@ impl Failure {
         let text = match answer {
             Answer::SET => set_text(set),
             Answer::REDO => format!("answers {answer}"),
+            Answer::NOT_INVERTIBLE => format!("refused with {answer}: the ABQ stream, set {set}"),
             _ => format!("refused with {answer}, set {set}"),
         };
         Failure { status: answer.number() as i32, text }
+    }
+
+    /// A salt that is not 16 bytes: it is refused here where it is hashed before the call.
+    pub fn salt(set: Set, length: usize) -> Failure {
+        let given = Given { refusal: Answer::SALT, argument: "--salt", length, exact: SALT };
+        Failure::about(Answer::SALT, set, &[given])
     }
 
     /// An answer other than done, with the argument that it is about.

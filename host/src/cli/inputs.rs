@@ -4,7 +4,7 @@ use super::args::Args;
 use super::failure::Failure;
 use crate::hex;
 use crate::scheme::Seeds;
-use crate::set::SALT;
+use crate::set::{SALT, Set};
 use crate::streams;
 use std::io::Read;
 
@@ -58,11 +58,15 @@ pub fn digest(args: &Args) -> Result<Vec<u8>, Failure> {
     }
 }
 
-/// The salt: as given, or chosen by the system.
-pub fn salt(args: &Args) -> Result<[u8; SALT], Failure> {
-    if args.flag("--salt") {
-        return fixed(args, "--salt");
-    }
+/// The salt as given. One that is not 16 bytes has page 01's number.
+pub fn salt(args: &Args, set: Set) -> Result<[u8; SALT], Failure> {
+    let bytes = bytes(args, "--salt")?;
+    let length = bytes.len();
+    bytes.try_into().map_err(|_| Failure::salt(set, length))
+}
+
+/// A salt chosen by the system.
+pub fn random_salt() -> Result<[u8; SALT], Failure> {
     let mut salt = [0; SALT];
     std::fs::File::open("/dev/urandom")
         .and_then(|mut source| source.read_exact(&mut salt))

@@ -2,7 +2,7 @@
 
 use super::args::{Args, Command, ENGINE, EXPANSION, opt, read_set};
 use super::failure::Failure;
-use super::output::write_file;
+use super::output::{print, write_file};
 use super::progress::Progress;
 use crate::answer::Answer;
 use crate::kat;
@@ -14,8 +14,8 @@ pub const COMMAND: Command = Command {
     about: "check known-answer files (PQCsignKAT_*.rsp), or write our own",
     usage: "check FILE ..\n\
             write SET|all --dir FOLDER [--count NUMBER] [--expansion NAME]",
-    notes: "check finds the set by the lengths of an entry and the expansion by its key, and names the\n\
-            first step at which an entry disagrees; the exit status is then 1.",
+    notes: "check finds the set by the lengths of an entry and the expansion by its key. It goes through\n\
+            every entry and names the first step at which one disagrees; the exit status is then 1.",
     options: &[
         opt("--dir", "FOLDER", "where files are written"),
         opt("--count", "NUMBER", "of entries in a file (the default is 100)"),
@@ -52,21 +52,29 @@ fn check_file(args: &Args, file: &str) -> Result<Answer, Failure> {
         .map_err(|reason| Failure::file(format!("'{file}': {reason}")))?;
     let title = kat::title(&scheme);
     let mut progress = Progress::new();
+    let mut text = String::new();
+    let mut agree = 0;
     for (at, entry) in entries.iter().enumerate() {
         progress.say(&format!("snova kat: {title}, entry {} of {}", at + 1, entries.len()));
-        if let Err(mismatch) = kat::check(&scheme, entry) {
-            drop(progress);
-            println!("{file}: {title}: {mismatch}");
-            return Ok(Answer::NOT_ACCEPTED);
+        match kat::check(&scheme, entry) {
+            Ok(()) => agree += 1,
+            Err(mismatch) => text += &format!("{file}: {title}: {mismatch}\n"),
         }
     }
     drop(progress);
-    println!("{file}: {title}: {} entries agree", entries.len());
-    Ok(Answer::ACCEPTED)
+    if agree == entries.len() {
+        print(&format!("{file}: {title}: {agree} entries agree\n"))?;
+        return Ok(Answer::ACCEPTED);
+    }
+    print(&format!("{text}{file}: {title}: {agree} of {} entries agree\n", entries.len()))?;
+    Ok(Answer::NOT_ACCEPTED)
 }
 
 fn write_files(args: &Args, sets: &[Set]) -> Result<Answer, Failure> {
     let folder = args.required("--dir")?;
+    if !std::path::Path::new(folder).is_dir() {
+        return Err(Failure::file(format!("--dir: '{folder}' is no folder")));
+    }
     let count: u32 = args.parsed("--count", 100)?;
     for &set in sets {
         let refused = |answer| Failure::answer(answer, set);
@@ -80,7 +88,7 @@ fn write_files(args: &Args, sets: &[Set]) -> Result<Answer, Failure> {
         drop(progress);
         let path = format!("{folder}/{}", kat::file_name(&scheme));
         write_file("--dir", &path, kat::write(&title, &entries).as_bytes())?;
-        println!("{path}: {count} entries");
+        print(&format!("{path}: {count} entries\n"))?;
     }
     Ok(Answer::DONE)
 }

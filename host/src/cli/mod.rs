@@ -35,10 +35,7 @@ pub fn run(words: Vec<String>) -> i32 {
             eprint!("{}", overview());
             failure::USAGE
         }
-        Some("--help" | "-h" | "help") => {
-            print!("{}", overview());
-            0
-        }
+        Some("--help" | "-h" | "help") => said("snova", output::print(&overview())),
         Some(name) => match COMMANDS.iter().find(|command| command.name == name) {
             Some(command) => run_command(command, &words[1..]),
             None => {
@@ -51,14 +48,21 @@ pub fn run(words: Vec<String>) -> i32 {
 
 fn run_command(command: &Command, words: &[String]) -> i32 {
     if words.iter().any(|word| word == "--help" || word == "-h") {
-        print!("{}", command.help());
-        return 0;
+        return said(&format!("snova {}", command.name), output::print(&command.help()));
     }
     let outcome = Args::parse(command, words).and_then(|args| (command.run)(&args));
     match outcome {
         Ok(answer) => answer.number() as i32,
+        Err(failure) => said(&format!("snova {}", command.name), Err(failure)),
+    }
+}
+
+/// The exit status of text that was to be printed.
+fn said(name: &str, result: Result<(), Failure>) -> i32 {
+    match result {
+        Ok(()) => 0,
         Err(Failure { status, text }) => {
-            eprintln!("snova {}: {text}", command.name);
+            eprintln!("{name}: {text}");
             status
         }
     }

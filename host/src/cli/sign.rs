@@ -50,9 +50,9 @@ fn run(args: &Args) -> Result<Answer, Failure> {
 fn from_seeds(args: &Args, set: Set) -> Result<Vec<u8>, Failure> {
     let seeds = inputs::seeds(args)?;
     let digest = inputs::digest(args)?;
-    let salt = inputs::salt(args)?;
     let refused = |answer| Failure::answer(answer, set);
     let scheme = Scheme::new(set, args.expansion()?, args.engine()?).map_err(refused)?;
+    let salt = if args.flag("--salt") { inputs::salt(args, set)? } else { inputs::random_salt()? };
     let signed = scheme.sign(&seeds, &digest, &salt).map_err(refused)?;
     if signed.tries > 1 {
         eprintln!("snova sign: try {} gave the signature, the ones before it redo", signed.tries);
@@ -79,6 +79,10 @@ fn from_streams(args: &Args, set: Set) -> Result<Vec<u8>, Failure> {
     let mut signature = vec![0; exact.map_or(0, |exact| exact.signature)];
     match args.engine()?.sign(set, &streams, &mut work, &mut signature) {
         Answer::DONE => Ok(signature),
+        Answer::REDO => {
+            let text = format!("answers {} with this --vinegar", Answer::REDO);
+            Err(Failure { text, ..Failure::answer(Answer::REDO, set) })
+        }
         answer => {
             let given = exact.map(|exact| given(&streams, &exact)).unwrap_or_default();
             Err(Failure::about(answer, set, &given))

@@ -2,6 +2,7 @@
 
 use super::args::{Args, Command, read_set};
 use super::failure::Failure;
+use super::output;
 use crate::answer::Answer;
 use crate::set::{ROUND_2, Set};
 
@@ -39,13 +40,11 @@ fn run(args: &Args) -> Result<Answer, Failure> {
         ];
         lines.push(row(&set.to_string(), columns));
     }
-    for line in lines {
-        println!("{line}");
-    }
+    output::print(&lines.concat())?;
     Ok(Answer::DONE)
 }
 
 fn row<T: std::fmt::Display>(set: &str, columns: [T; 8]) -> String {
     let columns: String = columns.iter().map(|column| format!(" {column:>9}")).collect();
-    format!("{set:<10}{columns}")
+    format!("{set:<10}{columns}\n")
 }

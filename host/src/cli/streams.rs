@@ -51,13 +51,13 @@ fn stream(args: &Args, set: Set, exact: &Lengths, name: &str) -> Result<Vec<u8>,
         "vinegar" => {
             let seed = inputs::fixed(args, "--private-seed")?;
             let digest = inputs::digest(args)?;
-            let salt = inputs::fixed(args, "--salt")?;
+            let salt = inputs::salt(args, set)?;
             Ok(streams::vinegar(exact, &seed, &digest, &salt, try_number(args)?))
         }
         "target" => {
             let seed = inputs::fixed(args, "--public-seed")?;
             let digest = inputs::digest(args)?;
-            Ok(streams::target(exact, &seed, &digest, &inputs::fixed(args, "--salt")?))
+            Ok(streams::target(exact, &seed, &digest, &inputs::salt(args, set)?))
         }
         _ => Err(Failure::usage(format!("'{name}' is no stream; snova streams --help lists them"))),
     }

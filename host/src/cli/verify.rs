@@ -2,7 +2,7 @@
 
 use super::args::{Args, Command, ENGINE, EXPANSION, opt};
 use super::failure::{Failure, Given};
-use super::inputs;
+use super::{inputs, output};
 use crate::answer::Answer;
 use crate::lent::VerdictStreams;
 use crate::scheme::Scheme;
@@ -36,7 +36,7 @@ fn run(args: &Args) -> Result<Answer, Failure> {
     let seeds = ["--public-seed", "--document", "--digest", "--expansion"];
     let by_streams = inputs::by_streams(args, &streams, &seeds)?;
     let answer = if by_streams { from_streams(args, set)? } else { from_seed(args, set)? };
-    println!("{}", if answer == Answer::ACCEPTED { "accepted" } else { "not accepted" });
+    output::print(if answer == Answer::ACCEPTED { "accepted\n" } else { "not accepted\n" })?;
     Ok(answer)
 }
 
