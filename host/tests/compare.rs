@@ -7,7 +7,7 @@ use common::{valid_call, verdict_of};
 use snova_host::answer::Answer;
 use snova_host::engine::Engine;
 use snova_host::prng::Prng;
-use snova_host::set::{ROUND_2, Set};
+use snova_host::set::{ROUND_2, SALT, Set};
 
 /// How often each outcome came.
 #[derive(Default, Debug)]
@@ -133,12 +133,15 @@ fn one_buffer_of_another_length() {
         let mut call = valid_call(prng, op, set, |_, _| Style::Random);
         let at = prng.below(call.buffers.len());
         let exact = call.buffers[at].len();
-        let length = match prng.below(6) {
+        // A length that is cut to one or two bytes on the way would pass for the exact one.
+        let length = match prng.below(8) {
             0 => 0,
             1 => exact - 1,
             2 => exact + 1,
             3 => exact * 2,
             4 => exact + 16,
+            5 => exact + 256 * prng.range(1, 3),
+            6 => exact + 65536 * prng.range(1, 2),
             _ => prng.below(2 * exact + 2),
         };
         call.buffers[at] = fill(prng, Style::Random, length);
@@ -193,6 +196,83 @@ fn the_nine_sets() {
         }
         assert!(accepted > 0, "{place}: all tries gave redo");
     }
+}
+
+/// All nine sets: one bit of one buffer changed, each buffer in turn, for every operation.
+#[test]
+fn the_nine_sets_damaged() {
+    let seed = 0x5EED_000C;
+    for (number, &set) in ROUND_2.iter().enumerate() {
+        let place = format!("test the_nine_sets_damaged, seed {seed:#x}, set {set}");
+        let mut prng = Prng::of_case(seed, number as u64);
+        let signing = valid_call(&mut prng, Op::Sign, set, |_, _| Style::Random);
+        let verdict = verdict_of(&signing, Engine::Library);
+        let keygen = valid_call(&mut prng, Op::Keygen, set, |_, _| Style::Random);
+        for call in verdict.iter().chain([&keygen]) {
+            for (at, takes) in call.op.takes().iter().enumerate() {
+                let mut damaged = call.clone();
+                let byte = prng.below(damaged.buffers[at].len());
+                damaged.buffers[at][byte] ^= 1 << prng.below(8);
+                compare(
+                    &format!("{place}, {:?}, byte {byte} of {}", call.op, takes.name),
+                    &damaged,
+                );
+            }
+        }
+    }
+}
+
+/// The buffers whose last byte has a spare half, for one operation and set.
+fn with_spare_half(op: Op, set: Set) -> Vec<usize> {
+    let Set { v, o, l } = set;
+    let block = l * l;
+    let elements = |name: &str| match name {
+        "public" => o * (v * v + 2 * v * o) * block,
+        "private" => v * o * l,
+        "vinegar" => v * block,
+        "target" => o * block,
+        "key" => o * o * o * block,
+        "signature" => set.n() * block,
+        _ => 0,
+    };
+    let takes = op.takes().iter().enumerate().filter(|(_, takes)| !takes.written);
+    takes.filter(|(_, takes)| elements(takes.name) % 2 == 1).map(|(at, _)| at).collect()
+}
+
+/// Readers do not look at a spare half: whatever stands there, answer and output are the same.
+/// Writers leave a zero there, whatever stood in the output before.
+#[test]
+fn spare_halves() {
+    let mut seen = 0;
+    cases("spare_halves", 0x5EED_000D, 60, |prng, place| {
+        let set = Set::new(prng.range(1, 3), prng.range(1, 3), 3);
+        let signing = valid_call(prng, Op::Sign, set, |_, _| Style::Random);
+        let keygen = valid_call(prng, Op::Keygen, set, |_, _| Style::Random);
+        let verdict = verdict_of(&signing, Engine::Library);
+        for call in [Some(signing), Some(keygen), verdict].into_iter().flatten() {
+            let outcome = (compare(place, &call), outputs(&call));
+            for at in with_spare_half(call.op, set) {
+                let name = call.op.takes()[at].name;
+                let end = call.buffers[at].len() - if name == "signature" { SALT } else { 0 };
+                for half in 0..16 {
+                    let mut other = call.clone();
+                    let byte = &mut other.buffers[at][end - 1];
+                    *byte = *byte & 15 | half << 4;
+                    let place = format!("{place}, {half} in the spare half of {name}");
+                    assert_eq!((compare(&place, &other), outputs(&other)), outcome, "{place}");
+                    seen += 1;
+                }
+            }
+        }
+    });
+    assert!(single_case() || seen > 1000, "{seen} spare halves");
+}
+
+/// What the library leaves in the buffers that an operation may write.
+fn outputs(call: &Call) -> Vec<Vec<u8>> {
+    let (_, after) = call.run(Engine::Library);
+    let buffers = call.op.takes().iter().zip(after.buffers);
+    buffers.filter(|(takes, _)| takes.written).map(|(_, buffer)| buffer).collect()
 }
 
 /// The largest sets that page 01 allows, and long thin ones.

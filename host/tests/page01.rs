@@ -2,7 +2,7 @@
 
 mod common;
 
-use common::{Call, Op, Style, compare, valid_call};
+use common::{Call, Op, Style, compare, library_alone, valid_call};
 use snova_host::answer::Answer;
 use snova_host::engine::Engine;
 use snova_host::lent::KeyStreams;
@@ -167,6 +167,31 @@ fn zero_vinegar_or_a_zero_public_stream_is_redo() {
                 assert_eq!(compare(&place, &call), Answer::REDO, "{place}");
             }
         }
+    }
+}
+
+/// The same for the nine sets and sets at the limits. The page says the answer, so no model is asked.
+#[test]
+fn zero_streams_of_the_large_sets() {
+    let mut prng = Prng::new(0x5EED_0103);
+    let limits = [(75, 33, 2), (75, 17, 3), (75, 10, 4), (1, 33, 2), (1, 17, 3), (1, 10, 4)];
+    let limits = limits.into_iter().map(|(v, o, l)| Set::new(v, o, l));
+    for set in ROUND_2.into_iter().chain(limits) {
+        for zero in ["vinegar", "public"] {
+            let call = valid_call(&mut prng, Op::Sign, set, |_, name| {
+                if name == zero { Style::Zero } else { Style::Random }
+            });
+            let place = format!("{set}: zero {zero}");
+            assert_eq!(library_alone(&place, &call), Answer::REDO, "{place}");
+        }
+        let mut call = valid_call(&mut prng, Op::Verify, set, |_, name| match name {
+            "signature" | "target" => Style::Zero,
+            _ => Style::Random,
+        });
+        assert_eq!(library_alone("zero target", &call), Answer::ACCEPTED, "{set}");
+        let last = set.o * set.l * set.l - 1;
+        call.buffer_mut("target")[last / 2] ^= 1 << (last % 2 * 4);
+        assert_eq!(library_alone("the last element", &call), Answer::NOT_ACCEPTED, "{set}");
     }
 }
 

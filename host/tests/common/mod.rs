@@ -106,10 +106,23 @@ const GUARD: usize = 24;
 const GUARD_BYTE: u8 = 0xC5;
 
 /// The answer, and every buffer afterwards, guards included.
-#[derive(PartialEq, Eq)]
-struct Outcome {
-    answer: Answer,
+#[derive(Clone, PartialEq, Eq)]
+pub struct Outcome {
+    pub answer: Answer,
     after: Vec<Vec<u8>>,
+}
+
+impl Outcome {
+    /// The lent part of a buffer afterwards.
+    pub fn lent(&mut self, at: usize) -> &mut [u8] {
+        let end = self.after[at].len() - GUARD;
+        &mut self.after[at][GUARD..end]
+    }
+
+    /// A buffer afterwards, with the bytes on either side of it.
+    pub fn whole(&mut self, at: usize) -> &mut Vec<u8> {
+        &mut self.after[at]
+    }
 }
 
 impl Call {
@@ -152,7 +165,7 @@ fn guards(whole: &[u8]) -> (&[u8], &[u8]) {
     (&whole[..GUARD], &whole[whole.len() - GUARD..])
 }
 
-fn outcome(call: &Call, engine: Engine) -> Outcome {
+pub fn outcome(call: &Call, engine: Engine) -> Outcome {
     let mut after: Vec<Vec<u8>> = call.buffers.iter().map(|buffer| guarded(buffer)).collect();
     let lent: Vec<&mut [u8]> = after
         .iter_mut()
@@ -205,14 +218,40 @@ pub fn expected_refusal(call: &Call) -> Option<Answer> {
 /// Library and model on the same call, and page 01's rules on what the library did.
 pub fn compare(place: &str, call: &Call) -> Answer {
     let library = outcome(call, Engine::Library);
-    let model = outcome(call, Engine::Model);
-    let complain = |text: String| -> ! { panic!("{place}\n{}\n{text}", call.describe()) };
+    match judge(call, &library, &outcome(call, Engine::Model)) {
+        Ok(()) => library.answer,
+        Err(text) => complain(place, call, &text),
+    }
+}
+
+/// The library alone, where the page says what it answers: page 01's rules on what it did.
+pub fn library_alone(place: &str, call: &Call) -> Answer {
+    let library = outcome(call, Engine::Library);
+    match page_rules(call, &library) {
+        Ok(()) => library.answer,
+        Err(text) => complain(place, call, &text),
+    }
+}
+
+/// What went wrong, and how to see it again.
+fn complain(place: &str, call: &Call, text: &str) -> ! {
+    let thread = std::thread::current();
+    let test = thread.name().unwrap_or("the test");
+    panic!(
+        "{place}\n{}\n{text}\nthe whole test again: cargo test --release {test}",
+        call.describe()
+    )
+}
+
+/// What is wrong with the library's outcome of a call, if anything: beside the model's, or by page
+/// 01's rules.
+pub fn judge(call: &Call, library: &Outcome, model: &Outcome) -> Result<(), String> {
     if library.answer != model.answer {
-        complain(format!("the library answers {}, the model {}", library.answer, model.answer));
+        return Err(format!("the library answers {}, the model {}", library.answer, model.answer));
     }
     for (takes, pair) in call.op.takes().iter().zip(library.after.iter().zip(&model.after)) {
         if let Some(at) = first_difference(pair.0, pair.1) {
-            complain(format!(
+            return Err(format!(
                 "answer {}: byte {} of {} is {:02X} by the library, {:02X} by the model",
                 library.answer,
                 at as isize - GUARD as isize,
@@ -222,10 +261,7 @@ pub fn compare(place: &str, call: &Call) -> Answer {
             ));
         }
     }
-    if let Err(text) = page_rules(call, &library) {
-        complain(text);
-    }
-    library.answer
+    page_rules(call, library)
 }
 
 fn first_difference(a: &[u8], b: &[u8]) -> Option<usize> {
