@@ -47,6 +47,24 @@ fn shake256_gives_the_published_values() {
     }
 }
 
+/// Every length of input from 0 to 400, so every place of the padding: the outputs of 200 bytes, one
+/// after the other, hashed once more. By Python's hashlib:
+/// `shake_256(b"".join(shake_256(bytes(k % 251 for k in range(n))).digest(200) for n in range(401)))`.
+#[test]
+fn every_length_of_input() {
+    let input = |n: usize| (0..n).map(|k| (k % 251) as u8).collect::<Vec<u8>>();
+    let all: Vec<u8> = (0..=400).flat_map(|n| Shake128::hash(&[&input(n)], 200)).collect();
+    assert_eq!(
+        hex::encode(&Shake128::hash(&[&all], 32)),
+        "F42079286978F3F087545CEE25A043C1BE6E18447601CA54DD48415BBD4C7BCC"
+    );
+    let all: Vec<u8> = (0..=400).flat_map(|n| Shake256::hash(&[&input(n)], 200)).collect();
+    assert_eq!(
+        hex::encode(&Shake256::hash(&[&all], 32)),
+        "752007F4637B5DC469319D08A5A653586DAC0616C7CD192BEA46A3B21C983153"
+    );
+}
+
 #[test]
 fn long_output_goes_on_past_a_block() {
     let output = Shake128::hash(&[b"abc"], 1000);

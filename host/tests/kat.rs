@@ -24,6 +24,7 @@ fn what_is_written_reads_back() {
     let entries = made(2);
     let text = kat::write("SNOVA_24_5_4_SSK", &entries);
     assert!(text.starts_with("# SNOVA_24_5_4_SSK\n\ncount = 0\nseed = 061550234D15"));
+    assert!(text.ends_with("\n\n") && text.contains("\n\ncount = 1\n"));
     assert_eq!(kat::read(&text).expect("a sound file"), entries);
     let lower = text.replace("seed = 061550234D15", "seed = 061550234d15");
     assert_eq!(kat::read(&lower).expect("digits of either case"), entries);
@@ -91,30 +92,21 @@ fn the_expansion_is_found_by_the_key() {
     assert_eq!(kat::check(&scheme, &entries[0]), Ok(()));
 }
 
-/// The first entry of the file of each set, by its fingerprint, for both expansions. The values
-/// were computed by the third program of `data/fingerprints.txt`.
+/// Each line: set, expansion, and the fingerprint of the file with the first entry alone.
+const KNOWN: &str = include_str!("data/files.txt");
+
+/// The host's own files of the nine sets, for both expansions, against the third program's.
 #[test]
-fn the_hosts_own_files_have_not_changed() {
-    let known = [
-        ("B08C92AB26918124D02B62F93E70C9C4", "2DC4CBFE8043497787DA937039503B25"),
-        ("D3F7AB6215E40D28A82D985FCDEA269F", "62D33C511991C363C2859AC18D812089"),
-        ("8D6A66EF57B511413A8FAFD4EDF9E1E2", "ECD36C730843156411BB6ED7C235186D"),
-        ("9E7C171086BCFECA4EA3BFA3E9E710E4", "787F27CAF1AE5EF5EF620F3BA184488B"),
-        ("82B506DDB207EE50FD5A0338E7665CE0", "2C24FAC3BA2997F3621E6F512A2EC8BD"),
-        ("C9DC6E8FFC6B2120E7885AC555E4B495", "CEFC6099FAA8AF657757C2E6BAE12AE3"),
-        ("771B1E3A2BEB25FC0D5799CC13931ECF", "9418036F21C670A6A646664E77D17492"),
-        ("761D576E3B0CA54E0F0535EF4718AB0C", "9F154878BD25C26F254A5398DB55446C"),
-        ("ECA110E67ECB88E042F20E541C07855F", "50E6F45AF2C7057155259A98E0728CFA"),
-    ];
-    let fingerprint = |set, expansion| {
-        let scheme = scheme(set, expansion);
+fn the_hosts_own_files_are_those_of_the_third_program() {
+    let lines: Vec<&str> = KNOWN.lines().filter(|line| !line.starts_with('#')).collect();
+    assert_eq!(lines.len(), 2 * ROUND_2.len());
+    for (line, set) in lines.iter().zip(ROUND_2.iter().flat_map(|set| [set, set])) {
+        let words: Vec<&str> = line.split(' ').collect();
+        assert_eq!(words[0].parse(), Ok(*set), "{line}");
+        let scheme = scheme(*set, words[1].parse().expect("an expansion"));
         let entries = kat::make(&scheme, 1, |_| {}).expect("entries");
         let text = kat::write(&kat::title(&scheme), &entries);
-        hex::encode(&Shake256::hash(&[text.as_bytes()], 16))
-    };
-    for (set, (aes, shake)) in ROUND_2.into_iter().zip(known) {
-        assert_eq!(fingerprint(set, Expansion::Aes), aes, "{set} aes");
-        assert_eq!(fingerprint(set, Expansion::Shake), shake, "{set} shake");
+        assert_eq!(hex::encode(&Shake256::hash(&[text.as_bytes()], 16)), words[2], "{line}");
     }
 }
 

@@ -1,5 +1,5 @@
-//! From seeds to streams, keys and signatures. `data/fingerprints.txt` says where the known
-//! answers come from.
+//! From seeds to streams, keys and signatures. The known answers of `data/fingerprints.txt` were
+//! written by a third program, `third/third.py`, which shares nothing with library and model.
 
 use snova_host::answer::Answer;
 use snova_host::engine::Engine;

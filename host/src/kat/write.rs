@@ -1,13 +1,13 @@
-//! Writes a response file in the layout of NIST's generator.
+//! Writes a response file in the layout of NIST's generator: a comment line, and after it and after
+//! each entry an empty line.
 
 use super::Entry;
 use crate::hex;
 use std::fmt::Write;
 
 pub fn write(title: &str, entries: &[Entry]) -> String {
-    let mut text = format!("# {title}\n");
+    let mut text = format!("# {title}\n\n");
     for entry in entries {
-        text.push('\n');
         let mut field = |name: &str, value: String| {
             writeln!(text, "{name} = {value}").expect("a string takes all");
         };
@@ -19,6 +19,7 @@ pub fn write(title: &str, entries: &[Entry]) -> String {
         field("sk", hex::encode(&entry.sk));
         field("smlen", entry.smlen.to_string());
         field("sm", hex::encode(&entry.sm));
+        text.push('\n');
     }
     text
 }
