@@ -51,9 +51,10 @@ pub struct Bench {
 }
 
 impl Bench {
-    /// Streams from a fixed seed, with a vinegar that gives a signature, a key, a signature.
-    pub fn prepare(set: Set) -> Result<Bench, Answer> {
-        let scheme = Scheme::new(set, Expansion::Aes, Engine::Library)?;
+    /// Streams from a fixed seed, with a vinegar that gives a signature, and `engine`'s key and
+    /// signature. A profiler that counts one engine's calls wants the other one here.
+    pub fn prepare(set: Set, engine: Engine) -> Result<Bench, Answer> {
+        let scheme = Scheme::new(set, Expansion::Aes, engine)?;
         let exact = scheme.exact;
         let mut prng = Prng::new(0xBE7C);
         let seeds = Seeds::from_bytes(&prng.bytes(Seeds::BYTES).try_into().expect("48 bytes"));
@@ -107,12 +108,23 @@ impl Bench {
         assert_eq!(answer, Answer::DONE, "{operation} of {} by the {engine}", self.set);
     }
 
-    /// Medians of `runs` runs of each engine, by turns, after one run of each that does not count.
+    /// One run, and what it leaves in key and signature.
+    fn written(&mut self, operation: Operation, engine: Engine) -> [Vec<u8>; 2] {
+        match operation {
+            Operation::Keygen => self.key.fill(0xA5),
+            Operation::Sign => self.signature.fill(0xA5),
+            Operation::Verify => {}
+        }
+        self.run(operation, engine);
+        [self.key.clone(), self.signature.clone()]
+    }
+
+    /// Medians of `runs` runs of each engine, by turns, after one run of each that does not count,
+    /// and in which both must write the same bytes.
     pub fn measure(&mut self, operation: Operation, runs: usize) -> Times {
         let mut times = [Vec::new(), Vec::new()];
-        for engine in Engine::BOTH {
-            self.run(operation, engine);
-        }
+        let [by_library, by_model] = Engine::BOTH.map(|engine| self.written(operation, engine));
+        assert!(by_library == by_model, "{operation} of {}: the two differ", self.set);
         for _ in 0..runs {
             for (engine, times) in Engine::BOTH.into_iter().zip(&mut times) {
                 let start = Instant::now();
@@ -132,13 +144,16 @@ fn median(mut times: Vec<Duration>) -> Duration {
 
 /// What was measured, and the state of the buffers.
 pub fn conditions(runs: usize) -> String {
-    format!(
-        "Medians of {runs} runs in one process, library and model by turns, after one run of each that \
-         does not count.\nBuffers: allocated once for a set and used by every run, so caches and pages are \
-         warm; streams made\nfrom fixed seeds beforehand; work area zero before and after each run; outputs \
-         written over.\nHashing is not measured. Processor: {}.",
-        processor()
-    )
+    let lines = [
+        &format!(
+            "Medians of {runs} runs in one process, library and model by turns, after one run of"
+        ),
+        "each that does not count and in which both write the same bytes. Buffers: allocated once",
+        "for a set and used by every run, so caches and pages are warm; streams made from fixed",
+        "seeds beforehand; work area zero before and after each run; outputs written over.",
+        &format!("Hashing is not measured. Processor: {}.", processor()),
+    ];
+    lines.join("\n")
 }
 
 fn processor() -> String {

@@ -6,6 +6,7 @@ use super::output;
 use super::progress::Progress;
 use crate::answer::Answer;
 use crate::bench::{self, Bench, Line, Operation};
+use crate::engine::Engine;
 use crate::set::{ROUND_2, Set};
 use std::time::Instant;
 
@@ -15,7 +16,7 @@ pub const COMMAND: Command = Command {
     usage: "[SET ..] [--runs NUMBER] [--markdown]\n\
             one SET OPERATION ITERATIONS [--engine NAME]",
     notes: "Without a set: the nine sets. OPERATION is keygen, sign or verify. 'one' repeats one operation\n\
-            in one engine, for a profiler.",
+            in one engine, for a profiler; key and signature are made by the other engine beforehand.",
     options: &[
         opt("--runs", "NUMBER", "runs of each, of which the median counts (the default is 9)"),
         opt("--markdown", "", "print a markdown table"),
@@ -45,7 +46,8 @@ fn table(args: &Args, sets: &[Set]) -> Result<Answer, Failure> {
     let mut lines = Vec::new();
     for &set in sets {
         progress.say(&format!("snova bench: {set}, making streams"));
-        let mut bench = Bench::prepare(set).map_err(|answer| Failure::answer(answer, set))?;
+        let bench = Bench::prepare(set, Engine::Library);
+        let mut bench = bench.map_err(|answer| Failure::answer(answer, set))?;
         for operation in Operation::ALL {
             progress.say(&format!("snova bench: {set} {operation}, {runs} runs of each"));
             lines.push(Line { set, operation, times: bench.measure(operation, runs) });
@@ -68,7 +70,8 @@ fn one(args: &Args, words: &[String]) -> Result<Answer, Failure> {
         .parse()
         .map_err(|_| Failure::usage(format!("ITERATIONS '{iterations}' is no number")))?;
     let engine = args.engine()?;
-    let mut bench = Bench::prepare(set).map_err(|answer| Failure::answer(answer, set))?;
+    let other = if engine == Engine::Library { Engine::Model } else { Engine::Library };
+    let mut bench = Bench::prepare(set, other).map_err(|answer| Failure::answer(answer, set))?;
     let start = Instant::now();
     for _ in 0..iterations {
         bench.run(operation, engine);

@@ -3,7 +3,8 @@
 //! It shares no code with the proved library and is written from the page and the paper, so that
 //! the two can be compared. It is literal: Algorithms 12 to 16 of the paper stand here loop by
 //! loop, and key generation is the page's three products of block matrices. The functions of this
-//! file take the same buffers as the library's.
+//! file take the same buffers as the library's; like these they are calls of their own, never
+//! inlined, so that a profiler can count either side.
 
 pub mod abq;
 pub mod blocks;
@@ -25,6 +26,7 @@ use crate::set::{SALT, Set};
 pub use packing::{pack, unpack};
 
 /// Key generation: writes P22 into `key`.
+#[inline(never)]
 pub fn keygen(set: Set, streams: &KeyStreams, key: &mut [u8]) -> Answer {
     if let Some(refusal) = refusals::of_keygen(set, streams, key.len()) {
         return refusal;
@@ -38,6 +40,7 @@ pub fn keygen(set: Set, streams: &KeyStreams, key: &mut [u8]) -> Answer {
 }
 
 /// Signing from one vinegar stream: writes the signature, its salt included.
+#[inline(never)]
 pub fn sign(set: Set, streams: &SigningStreams, work: &mut [u8], signature: &mut [u8]) -> Answer {
     if let Some(refusal) = refusals::of_signing(set, streams, work.len(), signature.len()) {
         return refusal;
@@ -56,6 +59,7 @@ pub fn sign(set: Set, streams: &SigningStreams, work: &mut [u8], signature: &mut
 }
 
 /// The verdict on a signature.
+#[inline(never)]
 pub fn verify(set: Set, streams: &VerdictStreams) -> Answer {
     if let Some(refusal) = refusals::of_verdict(set, streams) {
         return refusal;
