@@ -1,7 +1,5 @@
-//! Finds the proved library, has it made where it is missing or stale, and links it.
-//!
-//! `SNOVA_STANDIN=1` builds without it: `src/standin.rs` then answers in its place. That is for
-//! working on the host where the proving toolchain is not installed; nothing is proved then.
+//! Finds the proved library, has it made where it is missing or older than the Rattle sources, and
+//! links it.
 
 use std::fs;
 use std::path::{Path, PathBuf};
@@ -9,13 +7,7 @@ use std::process::Command;
 use std::time::SystemTime;
 
 fn main() {
-    println!("cargo::rustc-check-cfg=cfg(standin)");
-    println!("cargo::rerun-if-env-changed=SNOVA_STANDIN");
     println!("cargo::rerun-if-changed=build.rs");
-    if std::env::var("SNOVA_STANDIN").is_ok_and(|value| value == "1") {
-        println!("cargo::rustc-cfg=standin");
-        return;
-    }
     let root = repository_root();
     let archive = root.join("target/staticlib/libsnova.a");
     let sources = [root.join("crates"), root.join("crates.txt")];
@@ -54,20 +46,19 @@ fn changed(path: &Path) -> Option<SystemTime> {
     fs::metadata(path).ok()?.modified().ok()
 }
 
-/// The latest change of a file, or of a file below a folder.
+/// The latest change of a file, or of a folder and all below it.
 fn newest(path: &Path) -> Option<SystemTime> {
-    if !path.is_dir() {
-        return changed(path);
+    let own = changed(path);
+    match fs::read_dir(path) {
+        Ok(entries) => entries.flatten().filter_map(|entry| newest(&entry.path())).chain(own).max(),
+        Err(_) => own,
     }
-    let entries = fs::read_dir(path).ok()?;
-    entries.flatten().filter_map(|entry| newest(&entry.path())).max()
 }
 
 fn make_library(root: &Path, archive: &Path) -> Result<(), String> {
-    let advice = "SNOVA_STANDIN=1 builds the host without the proved library";
     if !root.join("crates.txt").is_file() {
         return Err(format!(
-            "{} is missing and {} holds no crates.txt to make it from; {advice}",
+            "{} is missing and {} holds no crates.txt to make it from",
             archive.display(),
             root.display()
         ));
@@ -81,7 +72,7 @@ fn make_library(root: &Path, archive: &Path) -> Result<(), String> {
     match status {
         Err(error) => Err(format!(
             "the proved library {} must be made by `rt staticlib snova`, and `rt` could not be run ({error}): \
-             put the Rattle toolchain's `rt` on PATH; {advice}",
+             put the Rattle toolchain's `rt` on PATH",
             archive.display()
         )),
         Ok(status) if !status.success() => {

@@ -3,14 +3,6 @@
 //! A buffer is a pointer and then its length. The answer is page 01's number.
 #![allow(unsafe_code)]
 
-#[cfg(standin)]
-#[path = "standin.rs"]
-mod standin;
-
-#[cfg(standin)]
-pub use standin::*;
-
-#[cfg(not(standin))]
 unsafe extern "C" {
     pub fn snova_keygen(
         v: usize,
