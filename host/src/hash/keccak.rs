@@ -1,4 +1,4 @@
-//! The permutation Keccak-f[1600] (FIPS 202, section 3), on 25 lanes; lane x + 5 y is A[x, y].
+//! The permutation `Keccak-f[1600]` (FIPS 202, section 3), on 25 lanes; lane x + 5 y is `A[x, y]`.
 
 const ROUNDS: usize = 24;
 

@@ -32,7 +32,7 @@ pub fn vinegar_part<const L: usize>(
 }
 
 /// Algorithm 13, with Algorithm 14's place for each M(i, k): the coefficients of the linear part.
-/// Row i L^2 + t_i and column k L^2 + t_j hold M(i, k)[t_i][t_j].
+/// Row i L^2 + t_i and column k L^2 + t_j hold `M(i, k)[t_i][t_j]`.
 pub fn linear_part<const L: usize>(
     set: Set,
     terms: &[Vec<Term<L>>],

@@ -1,4 +1,4 @@
-//! The matrix S, elements of F16[S] (Algorithm 1), and invertible matrices (Algorithm 2).
+//! The matrix S, elements of `F16[S]` (Algorithm 1), and invertible matrices (Algorithm 2).
 
 use super::matrix::Matrix;
 
