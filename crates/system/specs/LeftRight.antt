@@ -15,7 +15,7 @@ use Rattle.sets.specs.declared.Set.{Set}
 use Rattle.matrix.specs.Matrix.{Matrix, addM, mulM, transpose}
 use Rattle.matrix.specs.MatrixRing.{matrices}
 use Rattle.matrix.specs.Same.{Same, same-refl}
-use Rattle.scheme.specs.Streams.{blockOf, P11, P12, P21}
+use Rattle.scheme.specs.Streams.{blockOf, p11Number, p12Number, p21Number, P11, P12, P21}
 use Rattle.scheme.specs.Maps.{sumM}
 use Rattle.scheme.specs.Regroup.{products-entry, transposed-entry}
 use Rattle.rows.specs.Tile.{tile, sum-blocks}
@@ -69,7 +69,7 @@ module _ (l : ℕ) {r c : ℕ} (hr : r < l) (hc : c < l) where
 module _ (set : Set) (public x : List ℕ) where
   -- row y of the sums with P11: of block row u, the sum over j of P11(i', u, j) · (S^b·X_j)
   abbrev pub yRow : ℕ → ℕ → ℕ → ℕ
-  yRow i = productsRow (set .l) public (i * (set .v * set .v)) (set .v) x (set .l * set .l)
+  yRow i = productsRow (set .l) public (p11Number set i 0 0) (set .v) x (set .l * set .l)
 
   -- row y of the power sums of matrix index i'
   abbrev pub sumsRow : ℕ → ℕ → ℕ → ℕ
@@ -77,13 +77,13 @@ module _ (set : Set) (public x : List ℕ) where
 
   abbrev pub rightRow : List ℕ → ℕ → ℕ → ℕ → ℕ
   rightRow t i y z =
-      add (productsRow (set .l) public (set .o * (set .v * set .v) + set .o * (set .v * set .o) + i * (set .o * set .v)) (set .v) x (set .l * set .l) y z)
+      add (productsRow (set .l) public (p21Number set i 0 0) (set .v) x (set .l * set .l) y z)
       (transposedGain t 0 (set .o * set .l) (set .v * set .l) (yRow i) y z)
 
   abbrev pub leftRow : List ℕ → ℕ → ℕ → ℕ → ℕ
   leftRow t i y z =
-      add (leftGain (set .l) (set .v) x public (set .o * (set .v * set .v) + i * (set .v * set .o)) (set .o) y z)
-      (timesGain (leftGain (set .l) (set .v) x public (i * (set .v * set .v)) (set .v)) (set .v * set .l) (rowsOf (set .o * set .l) t) y z)
+      add (leftGain (set .l) (set .v) x public (p12Number set i 0 0) (set .o) y z)
+      (timesGain (leftGain (set .l) (set .v) x public (p11Number set i 0 0) (set .v)) (set .v * set .l) (rowsOf (set .o * set .l) t) y z)
 
   -- ---- the matrices that they are
 
@@ -111,17 +111,17 @@ module _ (set : Set) (public x : List ℕ) where
     y-blocks : (u b : ℕ) → yRow i (u * set .l + r) (b * set .l + c) ≡ rightP11From i u b r c
     unfolding rightP11From P11
     y-blocks u b =
-        products-blocks (set .l) hr hc public (i * (set .v * set .v)) (set .v) x (set .l * set .l) u b
+        products-blocks (set .l) hr hc public (p11Number set i 0 0) (set .v) x (set .l * set .l) u b
         ∙ ap (λ M. M r c) (sum-cong (matrices (set .l)) (set .v) (λ j h.
-        let number : i * (set .v * set .v) + u * set .v + j ≡ (i * set .v + u) * set .v + j = omega arith in
+        let number : p11Number set i 0 0 + u * set .v + j ≡ p11Number set i u j = omega arith in
         ap (λ p. mulM (set .l) (blockOf (set .l) public p) (tile (set .l) (set .l * set .l) x j b)) number))
 
-    z-blocks : (u a : ℕ) → leftGain (set .l) (set .v) x public (i * (set .v * set .v)) (set .v) (a * set .l + r) (u * set .l + c) ≡ leftP11From i u a r c
+    z-blocks : (u a : ℕ) → leftGain (set .l) (set .v) x public (p11Number set i 0 0) (set .v) (a * set .l + r) (u * set .l + c) ≡ leftP11From i u a r c
     unfolding leftP11From P11
     z-blocks u a =
-        left-blocks (set .l) hr hc (set .v) x public (i * (set .v * set .v)) (set .v) a u
+        left-blocks (set .l) hr hc (set .v) x public (p11Number set i 0 0) (set .v) a u
         ∙ ap (λ M. M r c) (sum-cong (matrices (set .l)) (set .v) (λ j h.
-        let number : i * (set .v * set .v) + j * set .v + u ≡ (i * set .v + j) * set .v + u = omega arith in
+        let number : p11Number set i 0 0 + j * set .v + u ≡ p11Number set i j u = omega arith in
         ap (λ p. mulM (set .l) (transpose (tile (set .l) (set .l * set .l) x j a)) (blockOf (set .l) public p)) number))
 
   module _ (i : ℕ) {r c : ℕ} (hr : r < set .l) (hc : c < set .l) where
@@ -133,10 +133,9 @@ module _ (set : Set) (public x : List ℕ) where
     unfolding rightFrom addM P21
     right-blocks t k b =
         ap₂ add
-        (products-blocks (set .l) hr hc public (set .o * (set .v * set .v) + set .o * (set .v * set .o) + i * (set .o * set .v)) (set .v) x (set .l * set .l) k b
+        (products-blocks (set .l) hr hc public (p21Number set i 0 0) (set .v) x (set .l * set .l) k b
         ∙ ap (λ M. M r c) (sum-cong (matrices (set .l)) (set .v) (λ j h.
-        let number : set .o * (set .v * set .v) + set .o * (set .v * set .o) + i * (set .o * set .v) + k * set .v + j
-        ≡ set .o * (set .v * set .v) + set .o * (set .v * set .o) + ((i * set .o + k) * set .v + j) = omega arith in
+        let number : p21Number set i 0 0 + k * set .v + j ≡ p21Number set i k j = omega arith in
         ap (λ p. mulM (set .l) (blockOf (set .l) public p) (tile (set .l) (set .l * set .l) x j b)) number)))
         (transposed-blocks (set .l) hr hc t (set .o * set .l) (set .v) (yRow i) k b (λ u. rightP11From i u b) (λ u s hu hs. y-blocks i hs hc u b))
 
@@ -144,9 +143,9 @@ module _ (set : Set) (public x : List ℕ) where
     unfolding leftFrom addM P12
     left-row-blocks t a k =
         ap₂ add
-        (left-blocks (set .l) hr hc (set .v) x public (set .o * (set .v * set .v) + i * (set .v * set .o)) (set .o) a k
+        (left-blocks (set .l) hr hc (set .v) x public (p12Number set i 0 0) (set .o) a k
         ∙ ap (λ M. M r c) (sum-cong (matrices (set .l)) (set .v) (λ j h.
-        let number : set .o * (set .v * set .v) + i * (set .v * set .o) + j * set .o + k ≡ set .o * (set .v * set .v) + ((i * set .v + j) * set .o + k) = omega arith in
+        let number : p12Number set i 0 0 + j * set .o + k ≡ p12Number set i j k = omega arith in
         ap (λ p. mulM (set .l) (transpose (tile (set .l) (set .l * set .l) x j a)) (blockOf (set .l) public p)) number)))
-        (times-blocks (set .l) hr hc (leftGain (set .l) (set .v) x public (i * (set .v * set .v)) (set .v)) (set .v) (set .o * set .l) t a k (λ u. leftP11From i u a)
+        (times-blocks (set .l) hr hc (leftGain (set .l) (set .v) x public (p11Number set i 0 0) (set .v)) (set .v) (set .o * set .l) t a k (λ u. leftP11From i u a)
         (λ u s hu hs. z-blocks i hr hs u a))

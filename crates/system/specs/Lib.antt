@@ -5,3 +5,4 @@ pub mod Places
 pub mod Sides
 pub mod Equation
 pub mod System
+pub mod Unique

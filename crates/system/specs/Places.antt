@@ -1,6 +1,6 @@
 -- Where one matrix index's blocks stand in the public stream and its rows in the tables, and that no product of the code wraps.
 -- Rests on the bounds of an allowed set.
-use mathlib.Core.Path.{_≡_}
+use mathlib.Core.Path.{_≡_, sym, subst}
 use Prim.Native.Nat.{ℕ, _+_, _*_, _<_, _≤_}
 use native.Mathlib.Nat.{mul-le-mul, mul-le-mul-right}
 use native.Mathlib.Omega.{arith}
@@ -8,16 +8,13 @@ use Rattle.ground.specs.Place.{row-fits}
 use Rattle.sets.specs.declared.Set.{Set}
 use Rattle.sets.specs.Sets.{mostV, mostL, mostO, mostRow, publicCount, publicBytes}
 use Rattle.sets.specs.Bounds.{Bounds}
+use Rattle.scheme.specs.Streams.{p11Number, p12Number, p21Number}
 
 -- the blocks of matrix index i in a public stream of n bytes
 pub record PublicPlaces (set : Set) (i n : ℕ) : Type 0 where
-  pub p11 : (i * (set .v * set .v) + set .v * set .v) * (set .l * set .l) ≤ 2 * n
-  pub p12 : (set .o * (set .v * set .v) + i * (set .v * set .o) + set .v * set .o) * (set .l * set .l) ≤ 2 * n
-  pub p21 : (set .o * (set .v * set .v) + set .o * (set .v * set .o) + i * (set .o * set .v) + set .o * set .v) * (set .l * set .l) ≤ 2 * n
-  pub i11 : i * (set .v * set .v) ≤ mostV * mostV * mostO
-  pub i12 : i * (set .v * set .o) ≤ mostV * mostO * mostO
-  pub o11 : set .o * (set .v * set .v) ≤ mostV * mostV * mostO
-  pub o12 : set .o * (set .v * set .o) ≤ mostV * mostO * mostO
+  pub p11 : (p11Number set i 0 0 + set .v * set .v) * (set .l * set .l) ≤ 2 * n
+  pub p12 : (p12Number set i 0 0 + set .v * set .o) * (set .l * set .l) ≤ 2 * n
+  pub p21 : (p21Number set i 0 0 + set .o * set .v) * (set .l * set .l) ≤ 2 * n
 
 pub public-places : {set : Set} {i n : ℕ} → Bounds set → i < set .o → n ≡ publicBytes set → PublicPlaces set i n
 unfolding publicBytes
@@ -27,18 +24,18 @@ public-places {set} {i} {n} b h e =
     let whole : publicCount set ≤ 2 * n = omega arith in
     let vv = row-fits (v * v) h in
     let vo = row-fits (v * o) h in
-    let first : i * (v * v) + v * v ≤ o * (v * v) = vv in
-    let second : o * (v * v) + i * (v * o) + v * o ≤ o * (v * v) + o * (v * o) = omega arith in
-    let third : o * (v * v) + o * (v * o) + i * (o * v) + o * v ≤ o * (v * v) + o * (v * o) + o * (v * o) = omega arith in
+    let first : p11Number set i 0 0 + v * v ≤ o * (v * v) = omega arith in
+    let second : p12Number set i 0 0 + v * o ≤ o * (v * v) + o * (v * o) = omega arith in
+    let third : p21Number set i 0 0 + o * v ≤ o * (v * v) + o * (v * o) + o * (v * o) = omega arith in
     record {
       p11 = omega (arith, mul-le-mul-right (set .l * set .l) first, b .counts .public);
       p12 = omega (arith, mul-le-mul-right (set .l * set .l) second, b .counts .public);
       p21 = omega (arith, mul-le-mul-right (set .l * set .l) third, b .counts .public);
-      i11 = omega (arith, b .products .vvo);
-      i12 = omega (arith, b .products .voo);
-      o11 = omega (arith, b .products .vvo);
-      o12 = omega (arith, b .products .voo);
     }
+
+-- a number that was computed, in the place of its definition
+pub number-within : (count size : ℕ) {number n room : ℕ} → n ≡ number → (number + count) * size ≤ room → (n + count) * size ≤ room
+number-within count size {room = room} e h = subst (λ k. (k + count) * size ≤ room) (sym e) h
 
 -- products of the set's numbers that the tables' sizes go by
 pub record TableSizes (set : Set) : Type 0 where
@@ -49,8 +46,10 @@ pub record TableSizes (set : Set) : Type 0 where
   pub rows : 0 < set .v * set .l
   pub vv : set .v * set .v ≤ mostV * mostV
   pub vo : set .v * set .o ≤ mostV * mostO
+  pub ov : set .o * set .v ≤ mostV * mostO
   pub vl : set .v * set .l ≤ mostV * mostL
   pub ol : set .o * set .l ≤ mostRow
+  pub oll : set .o * set .l * set .l ≤ mostRow
   pub ll : set .l * set .l ≤ mostL * mostL
   pub lvl : set .l * (set .v * set .l) ≤ 1200
   pub lol : set .l * (set .o * set .l) ≤ 1200
@@ -58,7 +57,11 @@ pub record TableSizes (set : Set) : Type 0 where
   pub vlll : set .v * set .l * (set .l * set .l) ≤ 4800
   pub llol : set .l * set .l * (set .o * set .l) ≤ mostRow * mostL
   pub olll : set .o * set .l * (set .l * set .l) ≤ mostRow * mostL
+  pub left : set .o * (set .l * set .l) * (set .o * set .l) ≤ mostRow * mostRow
   pub right : set .o * (set .o * set .l) * (set .l * set .l) ≤ mostRow * mostRow
+  pub sums : set .o * (set .l * set .l) * (set .l * set .l) ≤ mostRow * (mostL * mostL)
+  pub equation : set .l * set .l * (set .o * set .l * set .l + 1) ≤ mostL * mostL * (mostRow + 1)
+  pub system : set .o * (set .l * set .l) * (set .o * set .l * set .l + 1) ≤ mostRow * (mostRow + 1)
   pub llll : set .l * set .l * (set .l * set .l) ≤ mostL * mostL * (mostL * mostL)
 
 pub table-sizes : {set : Set} → Bounds set → TableSizes set
@@ -68,6 +71,7 @@ table-sizes {set} b =
     let more = mul-le-mul (p .vll) (l .l-most) in
     let one : 1 ≤ set .l = omega arith in
     let ol : set .o * set .l ≤ mostRow = omega arith in
+    let width : set .o * set .l * set .l + 1 ≤ mostRow + 1 = omega (arith, l .row) in
     record {
       positive-v = omega arith;
       positive-o = omega arith;
@@ -76,8 +80,10 @@ table-sizes {set} b =
       rows = omega (arith, mul-le-mul (l .v-least) one);
       vv = p .vv;
       vo = p .vo;
+      ov = omega (arith, p .vo);
       vl = p .vl;
       ol = ol;
+      oll = omega (arith, l .row);
       ll = p .ll;
       lvl = omega (arith, p .vll);
       lol = omega (arith, l .row);
@@ -85,7 +91,11 @@ table-sizes {set} b =
       vlll = omega (arith, more);
       llol = omega (arith, p .olll);
       olll = omega (arith, p .olll);
+      left = omega (arith, mul-le-mul ol (l .row));
       right = omega (arith, mul-le-mul ol (l .row));
+      sums = mul-le-mul (l .row) (p .ll);
+      equation = mul-le-mul (p .ll) width;
+      system = mul-le-mul (l .row) width;
       llll = p .llll;
     }
 

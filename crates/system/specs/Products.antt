@@ -1,6 +1,6 @@
 -- What the rows of a table gain from a product of tables, and the loops that add it row by row.
 -- A table is a rule for its rows; the code's tables are read by `rowsOf`. Rests on rows' PlusRows and tables' rows of products.
-use mathlib.Core.Path.{_≡_, refl, sym, ap, ap₂, _∙_}
+use mathlib.Core.Path.{_≡_, subst, refl, sym, ap, ap₂, _∙_}
 use mathlib.Core.List.{List}
 use Prim.Native.Nat.{ℕ, _+_, _*_, _/_, _%_, _<_, _≤_}
 use native.Mathlib.Nat.{le-refl, mul-le-mul-right, le-mul-of-pos-right, mul-pos, div-lt-iff-lt-mul, mod-lt, zero-add as zero-plus}
@@ -196,3 +196,13 @@ left-turn l number v count {j} hl h =
       plain = le-mul-of-pos-right (number + v * count) (mul-pos hl hl);
       table = row-fits (l * (l * l)) h;
     }
+
+-- ---- a number that was computed, in the place of its definition
+
+pub left-at : (l v : ℕ) (x stream : List ℕ) (count : ℕ) {number n at m w : ℕ} {d t : List ℕ} → n ≡ number
+    → PlusRows d at m w (leftGain l v x stream n count) t → PlusRows d at m w (leftGain l v x stream number count) t
+left-at l v x stream count {at = at} {m = m} {w = w} {d = d} {t = t} e p = subst (λ k. PlusRows d at m w (leftGain l v x stream k count) t) e p
+
+pub products-at : (l : ℕ) (stream : List ℕ) (count : ℕ) (src : List ℕ) (n : ℕ) {number k at m w : ℕ} {d t : List ℕ} → k ≡ number
+    → PlusRows d at m w (productsRow l stream k count src n) t → PlusRows d at m w (productsRow l stream number count src n) t
+products-at l stream count src n {at = at} {m = m} {w = w} {d = d} {t = t} e p = subst (λ k. PlusRows d at m w (productsRow l stream k count src n) t) e p

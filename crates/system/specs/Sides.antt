@@ -37,18 +37,30 @@ pub tile-cell-is : (l w : ℕ) (table : List ℕ) (j k e : ℕ) → e / 5 < l �
 unfolding tile
 tile-cell-is l w table j k e hr hc = cell-entry l (tile l w table j k) e hr hc
 
--- its place
-pub tile-within : (l w j k : ℕ) {r c n : ℕ} → (j + 1) * l * w ≤ n → (k + 1) * l ≤ w → r < l → c < l → (j * l + r) * w + (k * l + c) < n
-tile-within l w j k {r} {c} {n} fits column hr hc =
-    let inside : k * l + c < w = omega arith in
-    let row : j * l + r < (j + 1) * l = omega arith in
-    omega (arith, digits-lt row inside)
+-- the place of entry (r, c) of block (j, k) lies within the table, and nothing that it is made of is larger
+pub record EntryFits (l w j k r c n : ℕ) : Type 0 where
+  pub row : j * l + r ≤ (j * l + r) * w
+  pub place : (j * l + r) * w + (k * l + c) < n
 
--- numbers that a place is made of are at most the place's bound
-pub row-small : (x l w n : ℕ) → 0 < l → l ≤ w → (x + 1) * l * w ≤ n → x + 1 ≤ n
-row-small x l w n hl hw h =
+pub entry-fits : {l w j k r c n : ℕ} → (j + 1) * l * w ≤ n → (k + 1) * l ≤ w → r < l → c < l → EntryFits l w j k r c n
+entry-fits {l} {w} {j} {k} {r} {c} rows columns hr hc =
+    let inside : k * l + c < w = omega arith in
     let positive : 0 < w = omega arith in
-    omega (arith, le-mul-of-pos-right (x + 1) (mul-pos hl positive))
+    let row : j * l + r < (j + 1) * l = omega arith in
+    record { row = le-mul-of-pos-right (j * l + r) positive; place = omega (arith, digits-lt row inside) }
+
+-- block (x, y) lies within the table, and so do its numbers
+pub record TileFits (l w x y n : ℕ) : Type 0 where
+  pub rows : (x + 1) * l * w ≤ n
+  pub columns : (y + 1) * l ≤ w
+  pub row : x + 1 ≤ n
+  pub column : y + 1 ≤ w
+
+pub tile-fits : {l w x y n : ℕ} → 0 < l → (x + 1) * l * w ≤ n → (y + 1) * l ≤ w → TileFits l w x y n
+tile-fits {l} {w} {x} {y} {n} hl rows columns =
+    let column : y + 1 ≤ w = omega (arith, le-mul-of-pos-right (y + 1) hl) in
+    let positive : 0 < w = omega arith in
+    record { rows = rows; columns = columns; row = omega (arith, le-mul-of-pos-right (x + 1) (mul-pos hl positive)); column = column }
 
 -- one coefficient more
 pub combined-step : {l : ℕ} → l ≤ 5 → (q : ℕ → ℕ) (table : List ℕ) (w row column down across x : ℕ) {factor : ℕ} {sum part term more : List ℕ}
@@ -130,13 +142,13 @@ row-widened l count lefts rights a bt e p = widen (rows-plus p)
 
 -- ---- places
 
-pub record CellTurn (l count r c q : ℕ) : Type 0 where
+pub record CellTurn (l count q : ℕ) : Type 0 where
   pub row : q * l + l ≤ count * l * l
   pub block : q / l * 25 + 25 ≤ count * 25
   pub column : q % l < l
 
-pub cell-turn : (l count r c : ℕ) {q : ℕ} → 0 < l → q < count * l → CellTurn l count r c q
-cell-turn l count r c {q} hl h = record { row = row-fits l h; block = row-fits 25 (div-lt-iff-lt-mul hl .1 h); column = mod-lt q hl }
+pub cell-turn : (l count : ℕ) {q : ℕ} → 0 < l → q < count * l → CellTurn l count q
+cell-turn l count {q} hl h = record { row = row-fits l h; block = row-fits 25 (div-lt-iff-lt-mul hl .1 h); column = mod-lt q hl }
 
 pub record RowTurn (l width e : ℕ) : Type 0 where
   pub row : e * width + width ≤ l * l * width

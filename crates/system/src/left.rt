@@ -25,8 +25,10 @@ fn add_left_index(left: &mut [u8], at: usize, set: Set, i: usize, public: &[u8],
     let o = set.o;
     let l = set.l;
     let mut z = [0u8; SUMS];
-    add_left(&mut z, 0, l, v, x, public, i * (v * v), v);
-    add_left(left, at, l, v, x, public, o * (v * v) + i * (v * o), o);
+    let p11 = tables::p11_number(set, i, 0);
+    let p12 = tables::p12_number(set, i, 0);
+    add_left(&mut z, 0, l, v, x, public, p11, v);
+    add_left(left, at, l, v, x, public, p12, o);
     add_times(left, at, o * l, l * l, &z, v * l, t);
 }
 

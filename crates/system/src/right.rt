@@ -25,7 +25,8 @@ fn load_products(y: &mut [u8], set: Set, i: usize, public: &[u8], x: &[u8])
     let v = set.v;
     let l = set.l;
     rows::clear(y);
-    add_products(y, 0, l * l, public, i * (v * v), l, v, v, x);
+    let p11 = tables::p11_number(set, i, 0);
+    add_products(y, 0, l * l, public, p11, l, v, v, x);
 }
 
 // The rows of one matrix index, from byte `at` on. y holds its sums with P11, t holds T12.
@@ -47,17 +48,8 @@ fn add_right_index(
     let v = set.v;
     let o = set.o;
     let l = set.l;
-    add_products(
-        right,
-        at,
-        l * l,
-        public,
-        o * (v * v) + o * (v * o) + i * (o * v),
-        l,
-        o,
-        v,
-        x,
-    );
+    let p21 = tables::p21_number(set, i, 0);
+    add_products(right, at, l * l, public, p21, l, o, v, x);
     add_transposed(right, at, l * l, t, 0, o * l, v * l, y);
 }
 

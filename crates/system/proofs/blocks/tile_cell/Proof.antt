@@ -1,52 +1,51 @@
 -- `system::blocks::tile_cell` meets its contract: a byte outside l is 0, any other the entry at its row and column. Rests on Sides.
-use Prim.Native.Nat.{_+_, _*_, _/_, _%_, _-_, _<_, _≤_}
-use native.Mathlib.Nat.{le-mul-of-pos-right}
+use Prim.Native.Nat.{_+_, _*_, _/_, _%_, _<_, _≤_}
+use lib.ListN.{length}
 use Rattle.terms.specs.Reading.{cell-below, cell-right}
-use Rattle.system.specs.Sides.{tile-within, tile-cell-is}
-use borrow.Author.Needs.{needs}
+use Rattle.system.specs.Sides.{EntryFits, entry-fits, tile-cell-is}
 use native.Mathlib.Omega.{arith}
 use Rattle.system.proofs.blocks.tile_cell.Statement.{statement}
 use Rattle.system.proofs.blocks.tile_cell.Tie as tie
 
+abbrev start : tie.Else2 → tie.Start
+start c = c .before .before
+
+-- the place of an entry inside l
+place : (c : tie.Else2)
+    → EntryFits (start c .args .l) (start c .args .w) (start c .args .j) (start c .args .k) (start c .args .e / 5) (start c .args .e % 5) (length (start c .args .table .now))
+place c = entry-fits (start c .pre .0) (start c .pre .1) (c .before .if1 .left) (c .if2 .left)
+
 returns : tie.Need-returns
-returns c =
-    cell-below _ _ _ (c .if1 .taken)
+returns c = cell-below _ _ _ (c .if1 .taken)
 
 returns-2 : tie.Need-returns-2
-returns-2 c =
-    cell-right _ _ _ (c .before .if1 .left) (c .if2 .taken)
+returns-2 c = cell-right _ _ _ (c .before .if1 .left) (c .if2 .taken)
 
 mul-result : tie.Need-mul-result
-mul-result c =
-    let positive : 0 < c .before .before .args .w = omega (arith, c .before .before .pre, c .before .if1 .left) in omega (arith, le-mul-of-pos-right (c .before .before .args .j * c .before .before .args .l + c .before .before .args .e / 5) positive, tile-within (c .before .before .args .l) (c .before .before .args .w) (c .before .before .args .j) (c .before .before .args .k) (c .before .before .pre .0) (c .before .before .pre .1) (c .before .if1 .left) (c .if2 .left))
+mul-result c = omega (arith, place c)
 
 add-result : tie.Need-add-result
-add-result c =
-    let positive : 0 < c .before .before .args .w = omega (arith, c .before .before .pre, c .before .if1 .left) in omega (arith, le-mul-of-pos-right (c .before .before .args .j * c .before .before .args .l + c .before .before .args .e / 5) positive, tile-within (c .before .before .args .l) (c .before .before .args .w) (c .before .before .args .j) (c .before .before .args .k) (c .before .before .pre .0) (c .before .before .pre .1) (c .before .if1 .left) (c .if2 .left))
+add-result c = omega (arith, place c)
 
 mul-result-2 : tie.Need-mul-result-2
-mul-result-2 c =
-    let positive : 0 < c .before .before .args .w = omega (arith, c .before .before .pre, c .before .if1 .left) in omega (arith, le-mul-of-pos-right (c .before .before .args .j * c .before .before .args .l + c .before .before .args .e / 5) positive, tile-within (c .before .before .args .l) (c .before .before .args .w) (c .before .before .args .j) (c .before .before .args .k) (c .before .before .pre .0) (c .before .before .pre .1) (c .before .if1 .left) (c .if2 .left))
+mul-result-2 c = omega (arith, place c)
 
 mul-result-3 : tie.Need-mul-result-3
-mul-result-3 c =
-    let positive : 0 < c .before .before .args .w = omega (arith, c .before .before .pre, c .before .if1 .left) in omega (arith, le-mul-of-pos-right (c .before .before .args .j * c .before .before .args .l + c .before .before .args .e / 5) positive, tile-within (c .before .before .args .l) (c .before .before .args .w) (c .before .before .args .j) (c .before .before .args .k) (c .before .before .pre .0) (c .before .before .pre .1) (c .before .if1 .left) (c .if2 .left))
+mul-result-3 c = omega (arith, place c)
 
 add-result-2 : tie.Need-add-result-2
-add-result-2 c =
-    let positive : 0 < c .before .before .args .w = omega (arith, c .before .before .pre, c .before .if1 .left) in omega (arith, le-mul-of-pos-right (c .before .before .args .j * c .before .before .args .l + c .before .before .args .e / 5) positive, tile-within (c .before .before .args .l) (c .before .before .args .w) (c .before .before .args .j) (c .before .before .args .k) (c .before .before .pre .0) (c .before .before .pre .1) (c .before .if1 .left) (c .if2 .left))
+add-result-2 c = omega (arith, place c)
 
 add-result-3 : tie.Need-add-result-3
-add-result-3 c =
-    let positive : 0 < c .before .before .args .w = omega (arith, c .before .before .pre, c .before .if1 .left) in omega (arith, le-mul-of-pos-right (c .before .before .args .j * c .before .before .args .l + c .before .before .args .e / 5) positive, tile-within (c .before .before .args .l) (c .before .before .args .w) (c .before .before .args .j) (c .before .before .args .k) (c .before .before .pre .0) (c .before .before .pre .1) (c .before .if1 .left) (c .if2 .left))
+add-result-3 c = omega (arith, place c)
 
 shared-slice-read-result : tie.Need-shared-slice-read-result
-shared-slice-read-result c =
-    let positive : 0 < c .before .before .before .args .w = omega (arith, c .before .before .before .pre, c .before .before .if1 .left) in omega (arith, le-mul-of-pos-right (c .before .before .before .args .j * c .before .before .before .args .l + c .before .before .before .args .e / 5) positive, tile-within (c .before .before .before .args .l) (c .before .before .before .args .w) (c .before .before .before .args .j) (c .before .before .before .args .k) (c .before .before .before .pre .0) (c .before .before .before .pre .1) (c .before .before .if1 .left) (c .before .if2 .left))
+shared-slice-read-result c = place (c .before) .place
 
 returns-3 : tie.Need-returns-3
 returns-3 c =
-    tile-cell-is (c .before .before .before .args .l) (c .before .before .before .args .w) (c .before .before .before .args .table .now) (c .before .before .before .args .j) (c .before .before .before .args .k) (c .before .before .before .args .e) (c .before .before .if1 .left) (c .before .if2 .left)
+    let a = start (c .before) .args in
+    tile-cell-is (a .l) (a .w) (a .table .now) (a .j) (a .k) (a .e) (c .before .before .if1 .left) (c .before .if2 .left)
 
 pub tile-cell-spec : {M : Type 1} → statement M
 tile-cell-spec =

@@ -1,122 +1,200 @@
 -- `system::equation::add_term` meets its contract: the parts stand at their numbers, and the rows made of them are the term's (`term-rows`).
+-- Rests on Equation, and on terms' places of A, B and the groups of coefficients.
 use mathlib.Core.Path.{_≡_, sym, ap, _∙_}
-use Prim.Native.Nat.{_+_, _*_, _/_, _%_, _-_, _<_, _≤_}
+use Prim.Native.Nat.{ℕ, _+_, _*_, _<_, _≤_}
 use lib.ListN.{length}
 use Rattle.ground.specs.Place.{row-fits}
 use Rattle.rows.specs.Zero.{length-zeros}
 use Rattle.sets.specs.Sets.{terms}
-use Rattle.matrix.specs.Block.{length-block}
+use Rattle.matrix.specs.Matrix.{transpose}
+use Rattle.matrix.specs.Block.{view, block, length-block}
 use Rattle.matrix.specs.RingElements.{coefficient}
 use Rattle.scheme.specs.Streams.{groupOf, A}
-use Rattle.scheme.specs.Maps.{matrixIndex}
 use Rattle.terms.specs.Places.{size-allowed, a-within, b-within, q1-within, q2-within, index-lt, block-within, group-within}
 use Rattle.terms.specs.Adding.{a-is, b-is}
 use Rattle.system.specs.Places.{table-sizes}
-use Rattle.system.specs.Equation.{term-rows, term-places}
+use Rattle.system.specs.Equation.{term-rows, TermPlaces, term-places}
 use borrow.Author.Needs.{needs}
 use native.Mathlib.Omega.{arith}
 use Rattle.system.proofs.equation.add_term.Statement.{statement}
 use Rattle.system.proofs.equation.add_term.Tie as tie
 
+-- ---- what is known once the numbers are there and A and B are read
+
+abbrev start : tie.After-b → tie.Start
+start c = c .before .before .before .before .before .before .before .before .before .before .before .before .before .before
+
+abbrev made-a : tie.After-b → tie.After-invertible-at
+made-a c = c .before .before .before .before .before .before .before
+
+abbrev made-b : tie.After-b → tie.After-invertible-at2
+made-b c = c .before .before .before .before .before
+
+abbrev index : tie.After-b → ℕ
+index c = c .before .before .before .before .matrix-index .result
+
+index-below : (c : tie.After-b) → index c < start c .args .set .o
+index-below c = omega (arith, index-lt (start c .pre .0), c .before .before .before .before .matrix-index .ensures)
+
+places : (c : tie.After-b) → TermPlaces (start c .args .set) (index c)
+places c = term-places (start c .args .set) (index c) (index-below c)
+
+-- the coefficients of Q1 and Q2 stand in the ABQ stream
+group1 : (c : tie.After-b) → (c .before .before .before .q1-number .result + 1) * start c .args .set .l ≤ 2 * length (start c .args .abq .now)
+group1 c =
+    let s = start c in
+    group-within (s .pre .0 .bounds) (s .args .abq .now) (s .pre .1 .0 .0) (omega (arith, q1-within (s .pre .0), c .before .before .before .q1-number .ensures))
+
+group2 : (c : tie.After-b) → (c .before .before .q2-number .result + 1) * start c .args .set .l ≤ 2 * length (start c .args .abq .now)
+group2 c =
+    let s = start c in
+    group-within (s .pre .0 .bounds) (s .args .abq .now) (s .pre .1 .0 .0) (omega (arith, q2-within (s .pre .0), c .before .before .q2-number .ensures))
+
+-- so do the powers of S in their table
+powers : (c : tie.After-b) (x : ℕ) → x < start c .args .set .l
+    → ((0 + x * 1 + 1) * start c .args .set .l * start c .args .set .l ≤ length (start c .args .sp .now)) × ((0 + x * 0 + 1) * start c .args .set .l ≤ start c .args .set .l)
+powers c x h = (omega (arith, places c .powers x h, start c .pre .1 .1 .1 .1 .1), places c .power-column x h)
+
+small : (c : tie.After-b) → start c .args .set .l ≤ 5
+small c = omega (arith, start c .pre .0 .bounds .limits .l-most)
+
+-- the block that was made is A
+a-block : (c : tie.After-b)
+    → made-a c .invertible-at .result .block ≡ block (start c .args .set .l) (A (start c .args .set) (start c .args .abq .now) (start c .args .i) (start c .args .alpha))
+a-block c =
+    let s = start c in
+    a-is (s .pre .0) (s .args .abq .now) (s .pre .1 .0 .1) (made-a c .before .a-number .ensures) (made-a c .invertible-at .ensures)
+
+a-size : (c : tie.After-b) → length (made-a c .invertible-at .result .block) ≡ 25
+a-size c =
+    let a = start c .args in
+    ap length (a-block c) ∙ length-block (a .set .l) (A (a .set) (a .abq .now) (a .i) (a .alpha))
+
+a-long : (c : tie.After-b) → 25 ≤ length (made-a c .invertible-at .result .block)
+a-long c = let size = a-size c in omega arith
+
+bt-long : (c : tie.After-transposed) → 25 ≤ length (c .transposed .result)
+bt-long c =
+    let known = c .before .before .before .before .before .before .before .before .before in
+    let b = transpose (view (made-b known .invertible-at2 .result .block)) in
+    let whole : length (c .transposed .result) ≡ 25 = ap length (c .transposed .ensures) ∙ length-block (start known .args .set .l) b in
+    omega arith
+
+-- ---- the needs
+
 a-number-requires : tie.Need-a-number-requires
-a-number-requires c κs =
-    search needs
+a-number-requires c κs = c .before .before .before .before .before .pre .0
 
 invertible-at-requires : tie.Need-invertible-at-requires
 invertible-at-requires c κs =
-    let within : c .a-number .result < 2 * ((c .before .before .before .before .before .before .args .set) .o * terms (c .before .before .before .before .before .before .args .set)) = omega (arith, a-within (c .before .before .before .before .before .before .pre .0)) in (size-allowed (c .before .before .before .before .before .before .pre .0 .bounds .limits), block-within (c .before .before .before .before .before .before .pre .0 .bounds) (c .before .before .before .before .before .before .args .abq .now) (c .before .before .before .before .before .before .pre .1 .0 .0) within)
+    let s = c .before .before .before .before .before .before in
+    let within : c .a-number .result < 2 * (s .args .set .o * terms (s .args .set)) = omega (arith, a-within (s .pre .0), c .a-number .ensures) in
+    (size-allowed (s .pre .0 .bounds .limits), block-within (s .pre .0 .bounds) (s .args .abq .now) (s .pre .1 .0 .0) within)
 
 b-number-requires : tie.Need-b-number-requires
-b-number-requires c κs =
-    search needs
+b-number-requires c κs = c .before .before .before .before .before .before .before .pre .0
 
 invertible-at-requires-2 : tie.Need-invertible-at-requires-2
 invertible-at-requires-2 c κs =
-    let within : c .b-number .result < 2 * ((c .before .before .before .before .before .before .before .before .args .set) .o * terms (c .before .before .before .before .before .before .before .before .args .set)) = omega (arith, b-within (c .before .before .before .before .before .before .before .before .pre .0)) in (size-allowed (c .before .before .before .before .before .before .before .before .pre .0 .bounds .limits), block-within (c .before .before .before .before .before .before .before .before .pre .0 .bounds) (c .before .before .before .before .before .before .before .before .args .abq .now) (c .before .before .before .before .before .before .before .before .pre .1 .0 .0) within)
+    let s = c .before .before .before .before .before .before .before .before in
+    let within : c .b-number .result < 2 * (s .args .set .o * terms (s .args .set)) = omega (arith, b-within (s .pre .0), c .b-number .ensures) in
+    (size-allowed (s .pre .0 .bounds .limits), block-within (s .pre .0 .bounds) (s .args .abq .now) (s .pre .1 .0 .0) within)
 
 matrix-index-requires : tie.Need-matrix-index-requires
-matrix-index-requires c κs =
-    search needs
+matrix-index-requires c κs = c .before .before .before .before .before .before .before .before .before .pre .0
 
 q1-number-requires : tie.Need-q1-number-requires
-q1-number-requires c κs =
-    search needs
+q1-number-requires c κs = c .before .before .before .before .before .before .before .before .before .before .pre .0
 
 q2-number-requires : tie.Need-q2-number-requires
-q2-number-requires c κs =
-    search needs
+q2-number-requires c κs = c .before .before .before .before .before .before .before .before .before .before .before .pre .0
 
 combined-requires : tie.Need-combined-requires
-combined-requires c κs =
-    ((omega (arith, c .before .before .before .before .before .before .before .before .before .before .before .before .before .before .pre .0 .bounds .limits .l-most), omega (arith, group-within (c .before .before .before .before .before .before .before .before .before .before .before .before .before .before .pre .0 .bounds) (c .before .before .before .before .before .before .before .before .before .before .before .before .before .before .args .abq .now) (c .before .before .before .before .before .before .before .before .before .before .before .before .before .before .pre .1 .0 .0) (q1-within (c .before .before .before .before .before .before .before .before .before .before .before .before .before .before .pre .0)), ap (λ g. g * c .before .before .before .before .before .before .before .before .before .before .before .before .before .before .args .set .l) (c .before .before .before .q1-number .ensures))), λ x h. (omega (arith, (term-places (c .before .before .before .before .before .before .before .before .before .before .before .before .before .before .args .set) (matrixIndex (c .before .before .before .before .before .before .before .before .before .before .before .before .before .before .args .set) (c .before .before .before .before .before .before .before .before .before .before .before .before .before .before .args .i) (c .before .before .before .before .before .before .before .before .before .before .before .before .before .before .args .alpha)) (index-lt (c .before .before .before .before .before .before .before .before .before .before .before .before .before .before .pre .0))) .powers x h, c .before .before .before .before .before .before .before .before .before .before .before .before .before .before .pre .1 .1 .1 .1 .1), (term-places (c .before .before .before .before .before .before .before .before .before .before .before .before .before .before .args .set) (matrixIndex (c .before .before .before .before .before .before .before .before .before .before .before .before .before .before .args .set) (c .before .before .before .before .before .before .before .before .before .before .before .before .before .before .args .i) (c .before .before .before .before .before .before .before .before .before .before .before .before .before .before .args .alpha)) (index-lt (c .before .before .before .before .before .before .before .before .before .before .before .before .before .before .pre .0))) .power-column x h))
+combined-requires c κs = ((small c, group1 c), powers c)
 
 combined-requires-2 : tie.Need-combined-requires-2
-combined-requires-2 c κs =
-    ((omega (arith, c .before .before .before .before .before .before .before .before .before .before .before .before .before .before .before .pre .0 .bounds .limits .l-most), omega (arith, group-within (c .before .before .before .before .before .before .before .before .before .before .before .before .before .before .before .pre .0 .bounds) (c .before .before .before .before .before .before .before .before .before .before .before .before .before .before .before .args .abq .now) (c .before .before .before .before .before .before .before .before .before .before .before .before .before .before .before .pre .1 .0 .0) (q2-within (c .before .before .before .before .before .before .before .before .before .before .before .before .before .before .before .pre .0)), ap (λ g. g * c .before .before .before .before .before .before .before .before .before .before .before .before .before .before .before .args .set .l) (c .before .before .before .q2-number .ensures))), λ x h. (omega (arith, (term-places (c .before .before .before .before .before .before .before .before .before .before .before .before .before .before .before .args .set) (matrixIndex (c .before .before .before .before .before .before .before .before .before .before .before .before .before .before .before .args .set) (c .before .before .before .before .before .before .before .before .before .before .before .before .before .before .before .args .i) (c .before .before .before .before .before .before .before .before .before .before .before .before .before .before .before .args .alpha)) (index-lt (c .before .before .before .before .before .before .before .before .before .before .before .before .before .before .before .pre .0))) .powers x h, c .before .before .before .before .before .before .before .before .before .before .before .before .before .before .before .pre .1 .1 .1 .1 .1), (term-places (c .before .before .before .before .before .before .before .before .before .before .before .before .before .before .before .args .set) (matrixIndex (c .before .before .before .before .before .before .before .before .before .before .before .before .before .before .before .args .set) (c .before .before .before .before .before .before .before .before .before .before .before .before .before .before .before .args .i) (c .before .before .before .before .before .before .before .before .before .before .before .before .before .before .before .args .alpha)) (index-lt (c .before .before .before .before .before .before .before .before .before .before .before .before .before .before .before .pre .0))) .power-column x h))
+combined-requires-2 c κs = ((small (c .before), group2 (c .before)), powers (c .before))
 
 slice-aggregate-fill-sides : tie.Need-slice-aggregate-fill-sides
-slice-aggregate-fill-sides c =
-    search needs
+slice-aggregate-fill-sides c = search needs
 
 mul-fill-sides : tie.Need-mul-fill-sides
-mul-fill-sides c =
-    let hi : c .before .before .before .before .before .before .before .matrix-index .result < c .before .before .before .before .before .before .before .before .before .before .before .before .before .before .before .before .before .args .set .o = omega (arith, index-lt (c .before .before .before .before .before .before .before .before .before .before .before .before .before .before .before .before .before .pre .0), c .before .before .before .before .before .before .before .matrix-index .ensures) in omega (arith, table-sizes (c .before .before .before .before .before .before .before .before .before .before .before .before .before .before .before .before .before .pre .0 .bounds), row-fits ((c .before .before .before .before .before .before .before .before .before .before .before .before .before .before .before .before .before .args .set) .l) hi, row-fits ((c .before .before .before .before .before .before .before .before .before .before .before .before .before .before .before .before .before .args .set) .o) hi, c .before .before .before .before .before .before .before .before .before .before .before .before .before .before .before .before .before .pre .0 .bounds .products .oo)
+mul-fill-sides c = omega (arith, table-sizes (start (c .before .before .before) .pre .0 .bounds) .ol)
 
 mul-fill-sides-2 : tie.Need-mul-fill-sides-2
 mul-fill-sides-2 c =
-    let hi : c .before .before .before .before .before .before .before .matrix-index .result < c .before .before .before .before .before .before .before .before .before .before .before .before .before .before .before .before .before .args .set .o = omega (arith, index-lt (c .before .before .before .before .before .before .before .before .before .before .before .before .before .before .before .before .before .pre .0), c .before .before .before .before .before .before .before .matrix-index .ensures) in omega (arith, table-sizes (c .before .before .before .before .before .before .before .before .before .before .before .before .before .before .before .before .before .pre .0 .bounds), row-fits ((c .before .before .before .before .before .before .before .before .before .before .before .before .before .before .before .before .before .args .set) .l) hi, row-fits ((c .before .before .before .before .before .before .before .before .before .before .before .before .before .before .before .before .before .args .set) .o) hi, c .before .before .before .before .before .before .before .before .before .before .before .before .before .before .before .before .before .pre .0 .bounds .products .oo)
+    let known = c .before .before .before in
+    omega (arith, table-sizes (start known .pre .0 .bounds) .ol, row-fits (start known .args .set .l) (index-below known))
 
 fill-sides-requires : tie.Need-fill-sides-requires
 fill-sides-requires c κs =
-    let hi : c .before .before .before .before .before .before .before .matrix-index .result < c .before .before .before .before .before .before .before .before .before .before .before .before .before .before .before .before .before .args .set .o = omega (arith, index-lt (c .before .before .before .before .before .before .before .before .before .before .before .before .before .before .before .before .before .pre .0), c .before .before .before .before .before .before .before .matrix-index .ensures) in ((omega (arith, c .before .before .before .before .before .before .before .before .before .before .before .before .before .before .before .before .before .pre .0 .bounds .limits .l-least), (omega (arith, c .before .before .before .before .before .before .before .before .before .before .before .before .before .before .before .before .before .pre .0 .bounds .limits .l-most), (omega (arith, group-within (c .before .before .before .before .before .before .before .before .before .before .before .before .before .before .before .before .before .pre .0 .bounds) (c .before .before .before .before .before .before .before .before .before .before .before .before .before .before .before .before .before .args .abq .now) (c .before .before .before .before .before .before .before .before .before .before .before .before .before .before .before .before .before .pre .1 .0 .0) (q1-within (c .before .before .before .before .before .before .before .before .before .before .before .before .before .before .before .before .before .pre .0)), ap (λ g. g * c .before .before .before .before .before .before .before .before .before .before .before .before .before .before .before .before .before .args .set .l) (c .before .before .before .before .before .before .q1-number .ensures)), omega (arith, c .before .before .before .before .before .before .before .before .before .before .before .before .before .before .before .before .before .pre .0 .bounds .limits .o-most, length-zeros 825)))), λ k x hk hx. (omega (arith, (term-places (c .before .before .before .before .before .before .before .before .before .before .before .before .before .before .before .before .before .args .set) (c .before .before .before .before .before .before .before .matrix-index .result) hi) .left k x hk hx, c .before .before .before .before .before .before .before .before .before .before .before .before .before .before .before .before .before .pre .1 .1 .1 .0), (term-places (c .before .before .before .before .before .before .before .before .before .before .before .before .before .before .before .before .before .args .set) (c .before .before .before .before .before .before .before .matrix-index .result) hi) .left-column k x hk hx))
+    let known = c .before .before .before in
+    let s = start known in
+    let limits = s .pre .0 .bounds .limits in (
+      (omega (arith, limits .l-least), (small known, (group1 known, omega (arith, limits .o-most, length-zeros 825)))),
+      λ k x hk hx. (omega (arith, places known .left k x hk hx, s .pre .1 .1 .1 .0), places known .left-column k x hk hx),
+    )
 
 slice-aggregate-fill-sides-2 : tie.Need-slice-aggregate-fill-sides-2
-slice-aggregate-fill-sides-2 c =
-    search needs
+slice-aggregate-fill-sides-2 c = search needs
 
 mul-fill-sides-3 : tie.Need-mul-fill-sides-3
-mul-fill-sides-3 c =
-    let hi : c .before .before .before .before .before .before .before .before .before .before .matrix-index .result < c .before .before .before .before .before .before .before .before .before .before .before .before .before .before .before .before .before .before .before .before .args .set .o = omega (arith, index-lt (c .before .before .before .before .before .before .before .before .before .before .before .before .before .before .before .before .before .before .before .before .pre .0), c .before .before .before .before .before .before .before .before .before .before .matrix-index .ensures) in omega (arith, table-sizes (c .before .before .before .before .before .before .before .before .before .before .before .before .before .before .before .before .before .before .before .before .pre .0 .bounds), row-fits ((c .before .before .before .before .before .before .before .before .before .before .before .before .before .before .before .before .before .before .before .before .args .set) .l) hi, row-fits ((c .before .before .before .before .before .before .before .before .before .before .before .before .before .before .before .before .before .before .before .before .args .set) .o) hi, c .before .before .before .before .before .before .before .before .before .before .before .before .before .before .before .before .before .before .before .before .pre .0 .bounds .products .oo)
+mul-fill-sides-3 c = omega (arith, table-sizes (start (c .before .before .before .before .before .before) .pre .0 .bounds) .ll)
 
 mul-fill-sides-4 : tie.Need-mul-fill-sides-4
 mul-fill-sides-4 c =
-    let hi : c .before .before .before .before .before .before .before .before .before .before .matrix-index .result < c .before .before .before .before .before .before .before .before .before .before .before .before .before .before .before .before .before .before .before .before .args .set .o = omega (arith, index-lt (c .before .before .before .before .before .before .before .before .before .before .before .before .before .before .before .before .before .before .before .before .pre .0), c .before .before .before .before .before .before .before .before .before .before .matrix-index .ensures) in omega (arith, table-sizes (c .before .before .before .before .before .before .before .before .before .before .before .before .before .before .before .before .before .before .before .before .pre .0 .bounds), row-fits ((c .before .before .before .before .before .before .before .before .before .before .before .before .before .before .before .before .before .before .before .before .args .set) .l) hi, row-fits ((c .before .before .before .before .before .before .before .before .before .before .before .before .before .before .before .before .before .before .before .before .args .set) .o) hi, c .before .before .before .before .before .before .before .before .before .before .before .before .before .before .before .before .before .before .before .before .pre .0 .bounds .products .oo)
+    let known = c .before .before .before .before .before .before in
+    omega (arith, row-fits (start known .args .set .o) (index-below known), start known .pre .0 .bounds .products .oo)
 
 fill-sides-requires-2 : tie.Need-fill-sides-requires-2
 fill-sides-requires-2 c κs =
-    let hi : c .before .before .before .before .before .before .before .before .before .before .matrix-index .result < c .before .before .before .before .before .before .before .before .before .before .before .before .before .before .before .before .before .before .before .before .args .set .o = omega (arith, index-lt (c .before .before .before .before .before .before .before .before .before .before .before .before .before .before .before .before .before .before .before .before .pre .0), c .before .before .before .before .before .before .before .before .before .before .matrix-index .ensures) in ((omega (arith, c .before .before .before .before .before .before .before .before .before .before .before .before .before .before .before .before .before .before .before .before .pre .0 .bounds .limits .l-least), (omega (arith, c .before .before .before .before .before .before .before .before .before .before .before .before .before .before .before .before .before .before .before .before .pre .0 .bounds .limits .l-most), (omega (arith, group-within (c .before .before .before .before .before .before .before .before .before .before .before .before .before .before .before .before .before .before .before .before .pre .0 .bounds) (c .before .before .before .before .before .before .before .before .before .before .before .before .before .before .before .before .before .before .before .before .args .abq .now) (c .before .before .before .before .before .before .before .before .before .before .before .before .before .before .before .before .before .before .before .before .pre .1 .0 .0) (q2-within (c .before .before .before .before .before .before .before .before .before .before .before .before .before .before .before .before .before .before .before .before .pre .0)), ap (λ g. g * c .before .before .before .before .before .before .before .before .before .before .before .before .before .before .before .before .before .before .before .before .args .set .l) (c .before .before .before .before .before .before .before .before .q2-number .ensures)), omega (arith, c .before .before .before .before .before .before .before .before .before .before .before .before .before .before .before .before .before .before .before .before .pre .0 .bounds .limits .o-most, length-zeros 825)))), λ k x hk hx. (omega (arith, (term-places (c .before .before .before .before .before .before .before .before .before .before .before .before .before .before .before .before .before .before .before .before .args .set) (c .before .before .before .before .before .before .before .before .before .before .matrix-index .result) hi) .right k x hk hx, c .before .before .before .before .before .before .before .before .before .before .before .before .before .before .before .before .before .before .before .before .pre .1 .1 .1 .1 .0), (term-places (c .before .before .before .before .before .before .before .before .before .before .before .before .before .before .before .before .before .before .before .before .args .set) (c .before .before .before .before .before .before .before .before .before .before .matrix-index .result) hi) .right-column k x hk hx))
-
-transposed-requires : tie.Need-transposed-requires
-transposed-requires c κs =
-    search needs
+    let known = c .before .before .before .before .before .before in
+    let s = start known in
+    let limits = s .pre .0 .bounds .limits in (
+      (omega (arith, limits .l-least), (small known, (group2 known, omega (arith, limits .o-most, length-zeros 825)))),
+      λ k x hk hx. (omega (arith, places known .right k x hk hx, s .pre .1 .1 .1 .1 .0), places known .right-column k x hk hx),
+    )
 
 slice-aggregate-add-rows : tie.Need-slice-aggregate-add-rows
-slice-aggregate-add-rows c =
-    search needs
+slice-aggregate-add-rows c = search needs
 
 slice-aggregate-add-rows-2 : tie.Need-slice-aggregate-add-rows-2
-slice-aggregate-add-rows-2 c =
-    search needs
+slice-aggregate-add-rows-2 c = search needs
 
 slice-aggregate-add-rows-3 : tie.Need-slice-aggregate-add-rows-3
-slice-aggregate-add-rows-3 c =
-    sym (ap length (a-is (c .before .before .before .before .before .before .before .before .before .before .before .before .before .before .before .before .before .before .before .before .before .before .before .before .before .before .before .pre .0) (c .before .before .before .before .before .before .before .before .before .before .before .before .before .before .before .before .before .before .before .before .before .before .before .before .before .before .before .args .abq .now) (c .before .before .before .before .before .before .before .before .before .before .before .before .before .before .before .before .before .before .before .before .before .before .before .before .before .before .before .pre .1 .0 .1) (c .before .before .before .before .before .before .before .before .before .before .before .before .before .before .before .before .before .before .before .before .before .a-number .ensures) (c .before .before .before .before .before .before .before .before .before .before .before .before .before .before .before .before .before .before .before .before .invertible-at .ensures)) ∙ length-block ((c .before .before .before .before .before .before .before .before .before .before .before .before .before .before .before .before .before .before .before .before .before .before .before .before .before .before .before .args .set) .l) (A (c .before .before .before .before .before .before .before .before .before .before .before .before .before .before .before .before .before .before .before .before .before .before .before .before .before .before .before .args .set) (c .before .before .before .before .before .before .before .before .before .before .before .before .before .before .before .before .before .before .before .before .before .before .before .before .before .before .before .args .abq .now) (c .before .before .before .before .before .before .before .before .before .before .before .before .before .before .before .before .before .before .before .before .before .before .before .before .before .before .before .args .i) (c .before .before .before .before .before .before .before .before .before .before .before .before .before .before .before .before .before .before .before .before .before .before .before .before .before .before .before .args .alpha)))
+slice-aggregate-add-rows-3 c = sym (a-size (c .before .before .before .before .before .before .before .before .before .before .before .before .before))
 
 slice-aggregate-add-rows-4 : tie.Need-slice-aggregate-add-rows-4
-slice-aggregate-add-rows-4 c =
-    search needs
+slice-aggregate-add-rows-4 c = search needs
 
 add-rows-requires : tie.Need-add-rows-requires
 add-rows-requires c κs =
-    (omega (arith, c .before .before .before .before .before .before .before .before .before .before .before .before .before .before .before .before .before .before .before .before .before .before .before .before .before .before .before .before .pre .1 .1 .0, c .before .before .before .before .before .before .before .before .before .before .before .before .before .before .before .before .before .before .before .before .before .before .before .before .before .before .before .before .pre .0 .bounds .limits .l-most, c .before .before .before .before .before .before .before .before .before .before .before .before .before .before .before .before .before .before .before .before .before .before .before .before .before .before .before .before .pre .0 .bounds .limits .l-least, c .before .before .before .before .before .before .before .before .before .before .before .before .before .before .before .before .before .before .before .before .before .before .before .before .before .before .before .before .pre .0 .bounds .limits .row), omega (arith, c .before .before .before .before .before .before .before .before .before .before .before .before .before .before .before .before .before .before .before .before .before .before .before .before .before .before .before .before .pre .0 .bounds .limits .o-most, length-zeros 825, c .before .before .before .before .before .before .before .before .before .before .fill-sides .kept .0, c .before .before .before .before .before .before .before .fill-sides2 .kept .0, simp length-block at (ap length (a-is (c .before .before .before .before .before .before .before .before .before .before .before .before .before .before .before .before .before .before .before .before .before .before .before .before .before .before .before .before .pre .0) (c .before .before .before .before .before .before .before .before .before .before .before .before .before .before .before .before .before .before .before .before .before .before .before .before .before .before .before .before .args .abq .now) (c .before .before .before .before .before .before .before .before .before .before .before .before .before .before .before .before .before .before .before .before .before .before .before .before .before .before .before .before .pre .1 .0 .1) (c .before .before .before .before .before .before .before .before .before .before .before .before .before .before .before .before .before .before .before .before .before .before .a-number .ensures) (c .before .before .before .before .before .before .before .before .before .before .before .before .before .before .before .before .before .before .before .before .before .invertible-at .ensures))), simp length-block at (ap length (c .before .before .before .before .before .transposed .ensures))))
+    let known = c .before .before .before .before .before .before .before .before .before .before .before .before .before .before in
+    let s = start known in
+    let limits = s .pre .0 .bounds .limits in (
+      (s .pre .1 .1 .0, (omega (arith, limits .l-least), (small known, omega (arith, table-sizes (s .pre .0 .bounds) .oll)))),
+      (
+        omega (arith, limits .o-most, length-zeros 825, c .before .before .before .before .before .before .before .before .before .before .fill-sides .kept .0),
+        (omega (arith, limits .o-most, length-zeros 825, c .before .before .before .before .before .before .before .fill-sides2 .kept .0), (a-long known, bt-long (c .before .before .before .before .before))),
+      ),
+    )
 
 same-length : tie.Need-same-length
-same-length c =
-    search needs
+same-length c = search needs
 
 returns : tie.Need-returns
 returns c =
-    term-rows (c .before .before .before .before .before .before .before .before .before .before .before .before .before .before .before .before .before .before .before .before .before .before .before .before .before .before .before .before .before .before .before .pre .0) (c .before .before .before .before .before .before .before .before .before .before .before .before .before .before .before .before .before .before .before .before .before .before .before .before .before .before .before .before .before .before .before .args .abq .now) (c .before .before .before .before .before .before .before .before .before .before .before .before .before .before .before .before .before .before .before .before .before .before .before .before .before .before .before .before .before .before .before .args .left .now) (c .before .before .before .before .before .before .before .before .before .before .before .before .before .before .before .before .before .before .before .before .before .before .before .before .before .before .before .before .before .before .before .args .right .now) (c .before .before .before .before .before .before .before .before .before .before .before .before .before .before .before .before .before .before .before .before .before .before .before .before .before .before .before .before .before .before .before .args .sp .now) (c .before .before .before .before .before .before .before .before .before .before .before .before .before .before .before .before .before .before .before .before .before .matrix-index .ensures) (ap (λ n. coefficient ((c .before .before .before .before .before .before .before .before .before .before .before .before .before .before .before .before .before .before .before .before .before .before .before .before .before .before .before .before .before .before .before .args .set) .l) (groupOf ((c .before .before .before .before .before .before .before .before .before .before .before .before .before .before .before .before .before .before .before .before .before .before .before .before .before .before .before .before .before .before .before .args .set) .l) (c .before .before .before .before .before .before .before .before .before .before .before .before .before .before .before .before .before .before .before .before .before .before .before .before .before .before .before .before .before .before .before .args .abq .now) n)) (c .before .before .before .before .before .before .before .before .before .before .before .before .before .before .before .before .before .before .before .before .q1-number .ensures)) (ap (λ n. coefficient ((c .before .before .before .before .before .before .before .before .before .before .before .before .before .before .before .before .before .before .before .before .before .before .before .before .before .before .before .before .before .before .before .args .set) .l) (groupOf ((c .before .before .before .before .before .before .before .before .before .before .before .before .before .before .before .before .before .before .before .before .before .before .before .before .before .before .before .before .before .before .before .args .set) .l) (c .before .before .before .before .before .before .before .before .before .before .before .before .before .before .before .before .before .before .before .before .before .before .before .before .before .before .before .before .before .before .before .args .abq .now) n)) (c .before .before .before .before .before .before .before .before .before .before .before .before .before .before .before .before .before .before .before .q2-number .ensures)) (a-is (c .before .before .before .before .before .before .before .before .before .before .before .before .before .before .before .before .before .before .before .before .before .before .before .before .before .before .before .before .before .before .before .pre .0) (c .before .before .before .before .before .before .before .before .before .before .before .before .before .before .before .before .before .before .before .before .before .before .before .before .before .before .before .before .before .before .before .args .abq .now) (c .before .before .before .before .before .before .before .before .before .before .before .before .before .before .before .before .before .before .before .before .before .before .before .before .before .before .before .before .before .before .before .pre .1 .0 .1) (c .before .before .before .before .before .before .before .before .before .before .before .before .before .before .before .before .before .before .before .before .before .before .before .before .before .a-number .ensures) (c .before .before .before .before .before .before .before .before .before .before .before .before .before .before .before .before .before .before .before .before .before .before .before .before .invertible-at .ensures)) (b-is (c .before .before .before .before .before .before .before .before .before .before .before .before .before .before .before .before .before .before .before .before .before .before .before .before .before .before .before .before .before .before .before .pre .0) (c .before .before .before .before .before .before .before .before .before .before .before .before .before .before .before .before .before .before .before .before .before .before .before .before .before .before .before .before .before .before .before .args .abq .now) (c .before .before .before .before .before .before .before .before .before .before .before .before .before .before .before .before .before .before .before .before .before .before .before .before .before .before .before .before .before .before .before .pre .1 .0 .1) (c .before .before .before .before .before .before .before .before .before .before .before .before .before .before .before .before .before .before .before .before .before .before .before .b-number .ensures) (c .before .before .before .before .before .before .before .before .before .before .before .before .before .before .before .before .before .before .before .before .before .before .invertible-at2 .ensures)) (c .before .before .before .before .before .before .before .before .transposed .ensures) (c .before .before .before .before .before .before .before .before .before .before .before .before .before .before .before .before .combined .ensures) (c .before .before .before .before .before .before .before .before .before .before .before .before .before .before .before .combined2 .ensures) (c .before .before .before .before .before .before .before .before .before .before .before .before .before .fill-sides .ensures .0) (c .before .before .before .before .before .before .before .before .before .before .fill-sides2 .ensures .0) (c .before .before .add-rows .ensures)
+    let rights = c .before .before .before .before .before .before .before .before .before .before in
+    let lefts = rights .before .before .before in
+    let known = lefts .before .before .before .before in
+    let s = start known in
+    let a = s .args in
+    let q : ℕ → ℕ → ℕ = λ n. coefficient (a .set .l) (groupOf (a .set .l) (a .abq .now) n) in
+    term-rows (s .pre .0) (a .abq .now) (a .left .now) (a .right .now) (a .sp .now) (known .before .before .before .before .matrix-index .ensures)
+    (ap q (known .before .before .before .q1-number .ensures)) (ap q (known .before .before .q2-number .ensures)) (a-block known)
+    (b-is (s .pre .0) (a .abq .now) (s .pre .1 .0 .1) (made-b known .before .b-number .ensures) (made-b known .invertible-at2 .ensures))
+    (c .before .before .before .before .before .before .before .before .transposed .ensures) (lefts .before .before .before .combined .ensures) (lefts .before .before .combined2 .ensures)
+    (lefts .fill-sides .ensures .0) (rights .fill-sides2 .ensures .0) (c .before .before .add-rows .ensures)
 
 pub add-term-spec : {M : Type 1} → statement M
 add-term-spec =
@@ -139,7 +217,7 @@ add-term-spec =
     mul-fill-sides-3
     mul-fill-sides-4
     fill-sides-requires-2
-    transposed-requires
+    (λ _ _. tt)
     slice-aggregate-add-rows
     slice-aggregate-add-rows-2
     slice-aggregate-add-rows-3

@@ -1,9 +1,9 @@
 -- `system::equation::build` meets its contract. The invariant: the rows of the first i equations are there. Rests on Equation.
 use mathlib.Core.Path.{refl}
-use Prim.Native.Nat.{_+_, _*_, _/_, _%_, _-_, _<_, _≤_}
+use Prim.Native.Nat.{_+_, _*_, _-_, _<_, _≤_}
 use Rattle.rows.specs.PlusRows.{rows-then}
 use Rattle.system.specs.Products.{Stacking, stacking-none, stacking-next, stacking-end}
-use Rattle.system.specs.Places.{table-sizes, stack-fits}
+use Rattle.system.specs.Places.{TableSizes, table-sizes, stack-fits}
 use Rattle.system.specs.Equation.{systemRow, built}
 use borrow.Author.Needs.{needs}
 use native.Mathlib.Omega.{arith}
@@ -17,65 +17,92 @@ Inv-loop g₀ set abq target left right sums sp o l i₀ g i =
 abbrev μ-loop : tie.MeasureT-loop
 μ-loop g₀ set abq target left right sums sp o l i₀ g i = o - i
 
-clear-requires : tie.Need-clear-requires Inv-loop μ-loop
-clear-requires c κs =
-    search needs
+abbrev start : tie.At-loop Inv-loop μ-loop → tie.Start Inv-loop μ-loop
+start c = c .before .before .before .before .before .before .before .before .before .before .before .before
+
+sizes : (c : tie.In-loop Inv-loop μ-loop) → TableSizes (start (c .before) .args .set)
+sizes c = table-sizes (start (c .before) .pre .0 .0)
+
+-- the rows of equation i end within the system
+stack : (c : tie.In-loop Inv-loop μ-loop) → (let set = start (c .before) .args .set in let rows = set .l * set .l * (set .o * set .l * set .l + 1) in
+    c .before .loop .i * rows + rows ≤ set .o * (set .l * set .l) * (set .o * set .l * set .l + 1))
+stack c =
+    let set = start (c .before) .args .set in
+    stack-fits (set .l * set .l) (set .o * set .l * set .l + 1) (c .loop-test .taken)
 
 loop-holds : tie.Need-loop-holds Inv-loop μ-loop
-loop-holds c =
-    stacking-none
+loop-holds c = stacking-none
 
 mul-at : tie.Need-mul-at Inv-loop μ-loop
-mul-at c =
-    omega (arith, table-sizes (c .before .before .before .before .before .before .before .before .before .before .before .before .before .pre .0 .0), c .before .before .before .before .before .before .before .before .before .before .before .before .before .pre .0 .0 .limits .row, stack-fits (c .before .before .before .before .before .before .before .before .before .before .before .before .before .args .set .l * c .before .before .before .before .before .before .before .before .before .before .before .before .before .args .set .l) (c .before .before .before .before .before .before .before .before .before .before .before .before .before .args .set .o * c .before .before .before .before .before .before .before .before .before .before .before .before .before .args .set .l * c .before .before .before .before .before .before .before .before .before .before .before .before .before .args .set .l + 1) (c .loop-test .taken), c .before .before .before .before .before .before .before .before .before .before .before .before .before .pre .0 .1)
+mul-at c = omega (arith, sizes c .ll)
 
 mul-at-2 : tie.Need-mul-at-2 Inv-loop μ-loop
-mul-at-2 c =
-    omega (arith, table-sizes (c .before .before .before .before .before .before .before .before .before .before .before .before .before .pre .0 .0), c .before .before .before .before .before .before .before .before .before .before .before .before .before .pre .0 .0 .limits .row, stack-fits (c .before .before .before .before .before .before .before .before .before .before .before .before .before .args .set .l * c .before .before .before .before .before .before .before .before .before .before .before .before .before .args .set .l) (c .before .before .before .before .before .before .before .before .before .before .before .before .before .args .set .o * c .before .before .before .before .before .before .before .before .before .before .before .before .before .args .set .l * c .before .before .before .before .before .before .before .before .before .before .before .before .before .args .set .l + 1) (c .loop-test .taken), c .before .before .before .before .before .before .before .before .before .before .before .before .before .pre .0 .1)
+mul-at-2 c = omega (arith, sizes c .ol)
 
 mul-at-3 : tie.Need-mul-at-3 Inv-loop μ-loop
-mul-at-3 c =
-    omega (arith, table-sizes (c .before .before .before .before .before .before .before .before .before .before .before .before .before .pre .0 .0), c .before .before .before .before .before .before .before .before .before .before .before .before .before .pre .0 .0 .limits .row, stack-fits (c .before .before .before .before .before .before .before .before .before .before .before .before .before .args .set .l * c .before .before .before .before .before .before .before .before .before .before .before .before .before .args .set .l) (c .before .before .before .before .before .before .before .before .before .before .before .before .before .args .set .o * c .before .before .before .before .before .before .before .before .before .before .before .before .before .args .set .l * c .before .before .before .before .before .before .before .before .before .before .before .before .before .args .set .l + 1) (c .loop-test .taken), c .before .before .before .before .before .before .before .before .before .before .before .before .before .pre .0 .1)
+mul-at-3 c = omega (arith, sizes c .oll)
 
 add-at : tie.Need-add-at Inv-loop μ-loop
-add-at c =
-    omega (arith, table-sizes (c .before .before .before .before .before .before .before .before .before .before .before .before .before .pre .0 .0), c .before .before .before .before .before .before .before .before .before .before .before .before .before .pre .0 .0 .limits .row, stack-fits (c .before .before .before .before .before .before .before .before .before .before .before .before .before .args .set .l * c .before .before .before .before .before .before .before .before .before .before .before .before .before .args .set .l) (c .before .before .before .before .before .before .before .before .before .before .before .before .before .args .set .o * c .before .before .before .before .before .before .before .before .before .before .before .before .before .args .set .l * c .before .before .before .before .before .before .before .before .before .before .before .before .before .args .set .l + 1) (c .loop-test .taken), c .before .before .before .before .before .before .before .before .before .before .before .before .before .pre .0 .1)
+add-at c = omega (arith, sizes c .oll)
 
 mul-at-4 : tie.Need-mul-at-4 Inv-loop μ-loop
-mul-at-4 c =
-    omega (arith, table-sizes (c .before .before .before .before .before .before .before .before .before .before .before .before .before .pre .0 .0), c .before .before .before .before .before .before .before .before .before .before .before .before .before .pre .0 .0 .limits .row, stack-fits (c .before .before .before .before .before .before .before .before .before .before .before .before .before .args .set .l * c .before .before .before .before .before .before .before .before .before .before .before .before .before .args .set .l) (c .before .before .before .before .before .before .before .before .before .before .before .before .before .args .set .o * c .before .before .before .before .before .before .before .before .before .before .before .before .before .args .set .l * c .before .before .before .before .before .before .before .before .before .before .before .before .before .args .set .l + 1) (c .loop-test .taken), c .before .before .before .before .before .before .before .before .before .before .before .before .before .pre .0 .1)
+mul-at-4 c = omega (arith, sizes c .equation)
 
 mul-at-5 : tie.Need-mul-at-5 Inv-loop μ-loop
-mul-at-5 c =
-    omega (arith, table-sizes (c .before .before .before .before .before .before .before .before .before .before .before .before .before .pre .0 .0), c .before .before .before .before .before .before .before .before .before .before .before .before .before .pre .0 .0 .limits .row, stack-fits (c .before .before .before .before .before .before .before .before .before .before .before .before .before .args .set .l * c .before .before .before .before .before .before .before .before .before .before .before .before .before .args .set .l) (c .before .before .before .before .before .before .before .before .before .before .before .before .before .args .set .o * c .before .before .before .before .before .before .before .before .before .before .before .before .before .args .set .l * c .before .before .before .before .before .before .before .before .before .before .before .before .before .args .set .l + 1) (c .loop-test .taken), c .before .before .before .before .before .before .before .before .before .before .before .before .before .pre .0 .1)
+mul-at-5 c = omega (arith, stack c, sizes c .system)
 
 add-equation-requires : tie.Need-add-equation-requires Inv-loop μ-loop
 add-equation-requires c κs =
-    (((c .before .before .before .before .before .before .before .before .before .before .before .before .before .before .pre .0 .0), (c .before .loop-test .taken)), ((c .before .before .before .before .before .before .before .before .before .before .before .before .before .before .pre .1 .0 .0, c .before .before .before .before .before .before .before .before .before .before .before .before .before .before .pre .1 .0 .1 .0), (omega (arith, stack-fits (c .before .before .before .before .before .before .before .before .before .before .before .before .before .before .args .set .l * c .before .before .before .before .before .before .before .before .before .before .before .before .before .before .args .set .l) (c .before .before .before .before .before .before .before .before .before .before .before .before .before .before .args .set .o * c .before .before .before .before .before .before .before .before .before .before .before .before .before .before .args .set .l * c .before .before .before .before .before .before .before .before .before .before .before .before .before .before .args .set .l + 1) (c .before .loop-test .taken), c .before .before .before .before .before .before .before .before .before .before .before .before .before .before .pre .0 .1, (c .before .before .loop .inv) .so-far .long, c .before .before .before .before .before .clear .kept .0), (c .before .before .before .before .before .before .before .before .before .before .before .before .before .before .pre .1 .1 .0, (c .before .before .before .before .before .before .before .before .before .before .before .before .before .before .pre .1 .1 .1 .0, c .before .before .before .before .before .before .before .before .before .before .before .before .before .before .pre .1 .1 .1 .1 .0)))))
+    let now = c .before in
+    let at = now .before in
+    let s = start at in
+    let tables = s .pre .1 .1 in (
+      (s .pre .0 .0, now .loop-test .taken),
+      (
+        (s .pre .1 .0 .0, s .pre .1 .0 .1 .0),
+        (
+          omega (arith, stack now, s .pre .0 .1, at .loop .inv .so-far .long, at .before .before .before .clear .kept .0),
+          (omega (arith, tables .0, tables .1 .0), (omega (arith, tables .0, tables .1 .0), tables .1 .1 .0)),
+        ),
+      ),
+    )
 
 add-target-requires : tie.Need-add-target-requires Inv-loop μ-loop
 add-target-requires c κs =
-    (((c .before .before .before .before .before .before .before .before .before .before .before .before .before .before .before .before .before .before .pre .0 .0), (c .before .before .before .before .before .loop-test .taken)), ((c .before .before .before .before .before .before .before .before .before .before .before .before .before .before .before .before .before .before .pre .1 .0 .0, c .before .before .before .before .before .before .before .before .before .before .before .before .before .before .before .before .before .before .pre .1 .0 .1 .0), (omega (arith, stack-fits (c .before .before .before .before .before .before .before .before .before .before .before .before .before .before .before .before .before .before .args .set .l * c .before .before .before .before .before .before .before .before .before .before .before .before .before .before .before .before .before .before .args .set .l) (c .before .before .before .before .before .before .before .before .before .before .before .before .before .before .before .before .before .before .args .set .o * c .before .before .before .before .before .before .before .before .before .before .before .before .before .before .before .before .before .before .args .set .l * c .before .before .before .before .before .before .before .before .before .before .before .before .before .before .before .before .before .before .args .set .l + 1) (c .before .before .before .before .before .loop-test .taken), c .before .before .before .before .before .before .before .before .before .before .before .before .before .before .before .before .before .before .pre .0 .1, (c .before .before .before .before .before .before .loop .inv) .so-far .long, c .before .before .before .before .before .before .before .before .before .clear .kept .0, c .before .before .before .add-equation .kept .0), (c .before .before .before .before .before .before .before .before .before .before .before .before .before .before .before .before .before .before .pre .1 .1 .1 .1 .1, c .before .before .before .before .before .before .before .before .before .before .before .before .before .before .before .before .before .before .pre .1 .0 .1 .1))))
+    let now = c .before .before .before .before .before in
+    let at = now .before in
+    let s = start at in (
+      (s .pre .0 .0, now .loop-test .taken),
+      (
+        (s .pre .1 .0 .0, s .pre .1 .0 .1 .0),
+        (
+          omega (arith, stack now, s .pre .0 .1, at .loop .inv .so-far .long, at .before .before .before .clear .kept .0, c .before .before .before .add-equation .kept .0),
+          (s .pre .1 .1 .1 .1 .1, s .pre .1 .0 .1 .1),
+        ),
+      ),
+    )
 
 add-i : tie.Need-add-i Inv-loop μ-loop
-add-i c =
-    search needs
+add-i c = search needs
 
 loop-less : tie.Need-loop-less Inv-loop μ-loop
-loop-less c =
-    search needs
+loop-less c = search needs
 
 loop-again : tie.Need-loop-again Inv-loop μ-loop
 loop-again c =
-    stacking-next (c .before .before .before .before .before .before .before .before .before .loop .inv) (c .before .before .before .before .before .before .before .before .loop-test .taken) refl (rows-then (c .before .before .before .before .before .before .add-equation .ensures) (c .before .before .add-target .ensures))
+    let now = c .before .before .before .before .before .before .before .before in
+    let rows = rows-then (c .before .before .before .before .before .before .add-equation .ensures) (c .before .before .add-target .ensures) in
+    stacking-next (now .before .loop .inv) (now .loop-test .taken) refl rows
 
 same-length : tie.Need-same-length Inv-loop μ-loop
-same-length c =
-    search needs
+same-length c = search needs
 
 returns : tie.Need-returns Inv-loop μ-loop
 returns c =
-    built (c .before .before .before .before .before .before .before .before .before .before .before .before .before .args .set) (c .before .before .before .before .before .before .before .before .before .before .before .before .before .args .abq .now) (c .before .before .before .before .before .before .before .before .before .before .before .before .before .args .target .now) (c .before .before .before .before .before .before .before .before .before .before .before .before .before .args .left .now) (c .before .before .before .before .before .before .before .before .before .before .before .before .before .args .right .now) (c .before .before .before .before .before .before .before .before .before .before .before .before .before .args .sums .now) (c .before .before .before .before .before .before .before .before .before .before .before .before .before .args .sp .now) (c .before .before .before .before .before .before .before .before .before .before .before .before .before .args .g .now) (c .before .before .before .before .clear .ensures) (stacking-end (c .before .loop .inv) (c .loop-test .left))
+    let at = c .before in
+    let a = start at .args in
+    built (a .set) (a .abq .now) (a .target .now) (a .left .now) (a .right .now) (a .sums .now) (a .sp .now) (a .g .now)
+    (at .before .before .before .clear .ensures) (stacking-end (at .loop .inv) (c .loop-test .left))
 
 pub build-spec : {M : Type 1} → statement M
 build-spec =
@@ -83,7 +110,7 @@ build-spec =
     (tie.spec
     Inv-loop
     μ-loop
-    clear-requires
+    (λ _ _. tt)
     loop-holds
     mul-at
     mul-at-2

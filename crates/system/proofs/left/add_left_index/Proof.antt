@@ -1,95 +1,93 @@
--- `system::left::add_left_index` meets its contract: the gains one after the other. Rests on Products and Places.
+-- `system::left::add_left_index` meets its contract: the sums with P12 are added, then those with P11 times T12. Rests on Products and Places.
 use Prim.Native.Nat.{_*_}
-use Rattle.rows.specs.Zero.{zeros, length-zeros, zero-at}
+use lib.ListN.{length}
+use Rattle.rows.specs.Zero.{length-zeros, zero-at}
 use Rattle.rows.specs.PlusRows.{rows-then}
-use Rattle.system.specs.Products.{zero-rows, times-loaded}
-use Rattle.system.specs.Places.{public-places, table-sizes}
-use borrow.Author.Needs.{needs}
+use Rattle.tables.specs.Rooms.{kept-room}
+use Rattle.system.specs.Products.{left-at, zero-rows, times-loaded}
+use Rattle.system.specs.Places.{PublicPlaces, public-places, number-within, TableSizes, table-sizes}
 use native.Mathlib.Omega.{arith}
+use borrow.Author.Needs.{needs}
 use Rattle.system.proofs.left.add_left_index.Statement.{statement}
 use Rattle.system.proofs.left.add_left_index.Tie as tie
 
+-- where the blocks of matrix index i stand, and the sizes of the tables
+places : (s : tie.Start) → PublicPlaces (s .args .set) (s .args .i) (length (s .args .public .now))
+places s = public-places (s .pre .0 .0) (s .pre .0 .1 .0) (s .pre .1 .0)
+
+sizes : (s : tie.Start) → TableSizes (s .args .set)
+sizes s = table-sizes (s .pre .0 .0)
+
+p11-number-requires : tie.Need-p11-number-requires
+p11-number-requires c κs =
+    let s = c .before .before .before .before in
+    (s .pre .0 .0, s .pre .0 .1 .0, sizes s .positive-v)
+
+p12-number-requires : tie.Need-p12-number-requires
+p12-number-requires c κs =
+    let s = c .before .before .before .before .before in
+    (s .pre .0 .0, s .pre .0 .1 .0, sizes s .positive-v)
+
 slice-aggregate-add-left : tie.Need-slice-aggregate-add-left
-slice-aggregate-add-left c =
-    search needs
-
-mul-add-left : tie.Need-mul-add-left
-mul-add-left c =
-    omega (arith, public-places (c .before .before .before .before .before .pre .0 .0) (c .before .before .before .before .before .pre .0 .1 .0) (c .before .before .before .before .before .pre .1 .0), table-sizes (c .before .before .before .before .before .pre .0 .0))
-
-mul-add-left-2 : tie.Need-mul-add-left-2
-mul-add-left-2 c =
-    omega (arith, public-places (c .before .before .before .before .before .pre .0 .0) (c .before .before .before .before .before .pre .0 .1 .0) (c .before .before .before .before .before .pre .1 .0), table-sizes (c .before .before .before .before .before .pre .0 .0))
+slice-aggregate-add-left c = search needs
 
 add-left-requires : tie.Need-add-left-requires
 add-left-requires c κs =
-    omega (arith, public-places (c .before .before .before .before .before .pre .0 .0) (c .before .before .before .before .before .pre .0 .1 .0) (c .before .before .before .before .before .pre .1 .0), table-sizes (c .before .before .before .before .before .pre .0 .0), c .before .before .before .before .before .pre .0 .0 .limits .l-most, length-zeros 4800)
-
-mul-add-left-3 : tie.Need-mul-add-left-3
-mul-add-left-3 c =
-    omega (arith, public-places (c .before .before .before .before .before .before .before .before .pre .0 .0) (c .before .before .before .before .before .before .before .before .pre .0 .1 .0) (c .before .before .before .before .before .before .before .before .pre .1 .0), table-sizes (c .before .before .before .before .before .before .before .before .pre .0 .0))
-
-mul-add-left-4 : tie.Need-mul-add-left-4
-mul-add-left-4 c =
-    omega (arith, public-places (c .before .before .before .before .before .before .before .before .pre .0 .0) (c .before .before .before .before .before .before .before .before .pre .0 .1 .0) (c .before .before .before .before .before .before .before .before .pre .1 .0), table-sizes (c .before .before .before .before .before .before .before .before .pre .0 .0))
-
-mul-add-left-5 : tie.Need-mul-add-left-5
-mul-add-left-5 c =
-    omega (arith, public-places (c .before .before .before .before .before .before .before .before .pre .0 .0) (c .before .before .before .before .before .before .before .before .pre .0 .1 .0) (c .before .before .before .before .before .before .before .before .pre .1 .0), table-sizes (c .before .before .before .before .before .before .before .before .pre .0 .0))
-
-mul-add-left-6 : tie.Need-mul-add-left-6
-mul-add-left-6 c =
-    omega (arith, public-places (c .before .before .before .before .before .before .before .before .pre .0 .0) (c .before .before .before .before .before .before .before .before .pre .0 .1 .0) (c .before .before .before .before .before .before .before .before .pre .1 .0), table-sizes (c .before .before .before .before .before .before .before .before .pre .0 .0))
-
-add-add-left : tie.Need-add-add-left
-add-add-left c =
-    omega (arith, public-places (c .before .before .before .before .before .before .before .before .pre .0 .0) (c .before .before .before .before .before .before .before .before .pre .0 .1 .0) (c .before .before .before .before .before .before .before .before .pre .1 .0), table-sizes (c .before .before .before .before .before .before .before .before .pre .0 .0))
+    let s = c .before .before .before .before .before .before .before in
+    let set = s .args .set in (
+      (omega (arith, sizes s .llvl, length-zeros 4800), (s .pre .1 .1 .0, number-within (set .v * set .v) (set .l * set .l) (c .before .before .p11-number .ensures .is) (places s .p11))),
+      (sizes s .lvl, (sizes s .positive-l, s .pre .0 .0 .limits .l-most)),
+    )
 
 add-left-requires-2 : tie.Need-add-left-requires-2
 add-left-requires-2 c κs =
-    omega (arith, public-places (c .before .before .before .before .before .before .before .before .pre .0 .0) (c .before .before .before .before .before .before .before .before .pre .0 .1 .0) (c .before .before .before .before .before .before .before .before .pre .1 .0), table-sizes (c .before .before .before .before .before .before .before .before .pre .0 .0), c .before .before .before .before .before .before .before .before .pre .0 .0 .limits .l-most)
+    let s = c .before .before .before .before .before .before .before .before .before .before in
+    let set = s .args .set in (
+      (s .pre .0 .1 .1, (s .pre .1 .1 .0, number-within (set .v * set .o) (set .l * set .l) (c .before .before .before .before .p12-number .ensures .is) (places s .p12))),
+      (sizes s .lol, (sizes s .positive-l, s .pre .0 .0 .limits .l-most)),
+    )
 
 mul-add-times : tie.Need-mul-add-times
 mul-add-times c =
-    omega (arith, public-places (c .before .before .before .before .before .before .before .before .before .before .before .before .pre .0 .0) (c .before .before .before .before .before .before .before .before .before .before .before .before .pre .0 .1 .0) (c .before .before .before .before .before .before .before .before .before .before .before .before .pre .1 .0), table-sizes (c .before .before .before .before .before .before .before .before .before .before .before .before .pre .0 .0))
+    omega (arith, sizes (c .before .before .before .before .before .before .before .before .before .before .before .before .before .before) .ol)
 
 mul-add-times-2 : tie.Need-mul-add-times-2
 mul-add-times-2 c =
-    omega (arith, public-places (c .before .before .before .before .before .before .before .before .before .before .before .before .pre .0 .0) (c .before .before .before .before .before .before .before .before .before .before .before .before .pre .0 .1 .0) (c .before .before .before .before .before .before .before .before .before .before .before .before .pre .1 .0), table-sizes (c .before .before .before .before .before .before .before .before .before .before .before .before .pre .0 .0))
+    omega (arith, sizes (c .before .before .before .before .before .before .before .before .before .before .before .before .before .before) .ll)
 
 slice-aggregate-add-times : tie.Need-slice-aggregate-add-times
-slice-aggregate-add-times c =
-    search needs
+slice-aggregate-add-times c = search needs
 
 mul-add-times-3 : tie.Need-mul-add-times-3
 mul-add-times-3 c =
-    omega (arith, public-places (c .before .before .before .before .before .before .before .before .before .before .before .before .before .pre .0 .0) (c .before .before .before .before .before .before .before .before .before .before .before .before .before .pre .0 .1 .0) (c .before .before .before .before .before .before .before .before .before .before .before .before .before .pre .1 .0), table-sizes (c .before .before .before .before .before .before .before .before .before .before .before .before .before .pre .0 .0))
+    omega (arith, sizes (c .before .before .before .before .before .before .before .before .before .before .before .before .before .before .before) .vl)
 
 add-times-requires : tie.Need-add-times-requires
 add-times-requires c κs =
-    omega (arith, table-sizes (c .before .before .before .before .before .before .before .before .before .before .before .before .before .pre .0 .0), length-zeros 4800, c .before .before .before .before .before .before .before .add-left .kept .0, c .before .before .before .before .add-left2 .kept .0)
+    let s = c .before .before .before .before .before .before .before .before .before .before .before .before .before .before .before in (
+      kept-room (s .pre .0 .1 .1) (c .before .before .before .before .add-left2 .kept .0),
+      (kept-room (kept-room (sizes s .llvl) (length-zeros 4800)) (c .before .before .before .before .before .before .before .add-left .kept .0), s .pre .1 .1 .1),
+    )
 
 same-length : tie.Need-same-length
-same-length c =
-    search needs
+same-length c = search needs
 
 returns : tie.Need-returns
 returns c =
-    rows-then (c .before .before .before .before .before .before .before .add-left2 .ensures) (times-loaded (c .before .before .before .before .before .before .before .before .before .before .before .before .before .before .before .before .args .set .v * c .before .before .before .before .before .before .before .before .before .before .before .before .before .before .before .before .args .set .l) (c .before .before .before .before .before .before .before .before .before .before .before .before .before .before .before .before .args .t .now) (c .before .before .add-times .ensures) (zero-rows (zero-at 4800) (c .before .before .before .before .before .before .before .before .before .before .add-left .ensures)))
+    let a = c .before .before .before .before .before .before .before .before .before .before .before .before .before .before .before .before .before .before .args in
+    let set = a .set in
+    let p11 = left-at (set .l) (set .v) (a .x .now) (a .public .now) (set .v) (c .before .before .before .before .before .before .before .before .before .before .before .before .before .p11-number .ensures .is) (c .before .before .before .before .before .before .before .before .before .before .add-left .ensures) in
+    let p12 = left-at (set .l) (set .v) (a .x .now) (a .public .now) (set .o) (c .before .before .before .before .before .before .before .before .before .before .before .before .p12-number .ensures .is) (c .before .before .before .before .before .before .before .add-left2 .ensures) in
+    rows-then p12 (times-loaded (set .v * set .l) (a .t .now) (c .before .before .add-times .ensures) (zero-rows (zero-at 4800) p11))
 
 pub add-left-index-spec : {M : Type 1} → statement M
 add-left-index-spec =
     tie.close
     (tie.spec
+    p11-number-requires
+    p12-number-requires
     slice-aggregate-add-left
-    mul-add-left
-    mul-add-left-2
     add-left-requires
-    mul-add-left-3
-    mul-add-left-4
-    mul-add-left-5
-    mul-add-left-6
-    add-add-left
     add-left-requires-2
     mul-add-times
     mul-add-times-2

@@ -4,7 +4,7 @@ use Prim.Native.Nat.{_+_, _*_, _-_, _<_, _≤_}
 use Rattle.system.specs.Products.{Stacking, stacking-none, stacking-next, stacking-end}
 use Rattle.system.specs.LeftRight.{leftRow}
 use Rattle.system.specs.Filled.{left-filled}
-use Rattle.system.specs.Places.{table-sizes, stack-fits}
+use Rattle.system.specs.Places.{TableSizes, table-sizes, stack-fits}
 use borrow.Author.Needs.{needs}
 use native.Mathlib.Omega.{arith}
 use Rattle.system.proofs.left.fill_left.Statement.{statement}
@@ -16,53 +16,64 @@ Inv-loop left₀ set public x t o l i₀ left i = Stacking left₀ (set .l * set
 abbrev μ-loop : tie.MeasureT-loop
 μ-loop left₀ set public x t o l i₀ left i = o - i
 
-clear-requires : tie.Need-clear-requires Inv-loop μ-loop
-clear-requires c κs =
-    search needs
+abbrev start : tie.At-loop Inv-loop μ-loop → tie.Start Inv-loop μ-loop
+start c = c .before .before .before .before .before .before .before .before .before
+
+sizes : (c : tie.In-loop Inv-loop μ-loop) → TableSizes (start (c .before) .args .set)
+sizes c = table-sizes (start (c .before) .pre .0 .0)
+
+-- the rows of matrix index i end within those of all
+stack : (c : tie.In-loop Inv-loop μ-loop) → (let set = start (c .before) .args .set in let i = c .before .loop .i in
+    i * (set .l * set .l * (set .o * set .l)) + set .l * set .l * (set .o * set .l) ≤ set .o * (set .l * set .l) * (set .o * set .l))
+stack c =
+    let set = start (c .before) .args .set in
+    stack-fits (set .l * set .l) (set .o * set .l) (c .loop-test .taken)
 
 loop-holds : tie.Need-loop-holds Inv-loop μ-loop
-loop-holds c =
-    stacking-none
+loop-holds c = stacking-none
 
 mul-add-left-index : tie.Need-mul-add-left-index Inv-loop μ-loop
-mul-add-left-index c =
-    omega (arith, table-sizes (c .before .before .before .before .before .before .before .before .before .before .before .pre .0 .0), stack-fits (c .before .before .before .before .before .before .before .before .before .before .before .args .set .l * c .before .before .before .before .before .before .before .before .before .before .before .args .set .l) (c .before .before .before .before .before .before .before .before .before .before .before .args .set .o * c .before .before .before .before .before .before .before .before .before .before .before .args .set .l) (c .before .loop-test .taken))
+mul-add-left-index c = omega (arith, sizes (c .before) .ll)
 
 mul-add-left-index-2 : tie.Need-mul-add-left-index-2 Inv-loop μ-loop
-mul-add-left-index-2 c =
-    omega (arith, table-sizes (c .before .before .before .before .before .before .before .before .before .before .before .pre .0 .0), stack-fits (c .before .before .before .before .before .before .before .before .before .before .before .args .set .l * c .before .before .before .before .before .before .before .before .before .before .before .args .set .l) (c .before .before .before .before .before .before .before .before .before .before .before .args .set .o * c .before .before .before .before .before .before .before .before .before .before .before .args .set .l) (c .before .loop-test .taken))
+mul-add-left-index-2 c = omega (arith, sizes (c .before) .ol)
 
 mul-add-left-index-3 : tie.Need-mul-add-left-index-3 Inv-loop μ-loop
-mul-add-left-index-3 c =
-    omega (arith, table-sizes (c .before .before .before .before .before .before .before .before .before .before .before .pre .0 .0), stack-fits (c .before .before .before .before .before .before .before .before .before .before .before .args .set .l * c .before .before .before .before .before .before .before .before .before .before .before .args .set .l) (c .before .before .before .before .before .before .before .before .before .before .before .args .set .o * c .before .before .before .before .before .before .before .before .before .before .before .args .set .l) (c .before .loop-test .taken))
+mul-add-left-index-3 c = omega (arith, sizes (c .before) .llol)
 
 mul-add-left-index-4 : tie.Need-mul-add-left-index-4 Inv-loop μ-loop
 mul-add-left-index-4 c =
-    omega (arith, table-sizes (c .before .before .before .before .before .before .before .before .before .before .before .pre .0 .0), stack-fits (c .before .before .before .before .before .before .before .before .before .before .before .args .set .l * c .before .before .before .before .before .before .before .before .before .before .before .args .set .l) (c .before .before .before .before .before .before .before .before .before .before .before .args .set .o * c .before .before .before .before .before .before .before .before .before .before .before .args .set .l) (c .before .loop-test .taken))
+    let now = c .before in
+    omega (arith, stack now, sizes now .left)
 
 add-left-index-requires : tie.Need-add-left-index-requires Inv-loop μ-loop
 add-left-index-requires c κs =
-    ((c .before .before .before .before .before .before .before .before .before .before .before .pre .0 .0, ((c .before .loop-test .taken), omega (arith, stack-fits (c .before .before .before .before .before .before .before .before .before .before .before .args .set .l * c .before .before .before .before .before .before .before .before .before .before .before .args .set .l) (c .before .before .before .before .before .before .before .before .before .before .before .args .set .o * c .before .before .before .before .before .before .before .before .before .before .before .args .set .l) (c .before .loop-test .taken), (c .before .before .loop .inv) .so-far .long, c .before .before .before .before .before .clear .kept .0))), c .before .before .before .before .before .before .before .before .before .before .before .pre .1)
+    let now = c .before in
+    let at = now .before in
+    let s = start at in (
+      (s .pre .0 .0, (now .loop-test .taken, omega (arith, stack now, s .pre .0 .1, at .loop .inv .so-far .long, at .before .before .before .clear .kept .0))),
+      s .pre .1,
+    )
 
 add-i : tie.Need-add-i Inv-loop μ-loop
-add-i c =
-    search needs
+add-i c = search needs
 
 loop-less : tie.Need-loop-less Inv-loop μ-loop
-loop-less c =
-    search needs
+loop-less c = search needs
 
 loop-again : tie.Need-loop-again Inv-loop μ-loop
 loop-again c =
-    stacking-next (c .before .before .before .before .before .loop .inv) (c .before .before .before .before .loop-test .taken) refl (c .before .before .add-left-index .ensures)
+    let now = c .before .before .before .before in
+    stacking-next (now .before .loop .inv) (now .loop-test .taken) refl (c .before .before .add-left-index .ensures)
 
 same-length : tie.Need-same-length Inv-loop μ-loop
-same-length c =
-    search needs
+same-length c = search needs
 
 returns : tie.Need-returns Inv-loop μ-loop
 returns c =
-    left-filled (c .before .before .before .before .before .before .before .before .before .before .args .set) (c .before .before .before .before .before .before .before .before .before .before .args .public .now) (c .before .before .before .before .before .before .before .before .before .before .args .x .now) (c .before .before .before .before .before .before .before .before .before .before .args .t .now) (c .before .before .before .before .before .before .before .before .before .before .args .left .now) (c .before .before .before .before .clear .ensures) (stacking-end (c .before .loop .inv) (c .loop-test .left))
+    let at = c .before in
+    let a = start at .args in
+    left-filled (a .set) (a .public .now) (a .x .now) (a .t .now) (a .left .now) (at .before .before .before .clear .ensures) (stacking-end (at .loop .inv) (c .loop-test .left))
 
 pub fill-left-spec : {M : Type 1} → statement M
 fill-left-spec =
@@ -70,7 +81,7 @@ fill-left-spec =
     (tie.spec
     Inv-loop
     μ-loop
-    clear-requires
+    (λ _ _. tt)
     loop-holds
     mul-add-left-index
     mul-add-left-index-2

@@ -1,11 +1,11 @@
 -- `system::products::add_left` meets its contract. The invariant: the terms of the first j are added. Rests on Products.
-use mathlib.Core.Path.{_≡_, refl}
+use mathlib.Core.Path.{_≡_}
 use Prim.Native.Nat.{_+_, _*_, _-_, _<_, _≤_}
 use lib.ListN.{length}
 use native.Mathlib.Nat.{le-mul-of-pos-right, mul-le-mul}
 use Rattle.rows.specs.Zero.{length-zeros}
 use Rattle.tables.specs.Gains.{blocksRow}
-use Rattle.system.specs.Products.{transposedGain, leftGain, Summing, summing-none, summing-next, summing-end, transposed-loaded, left-turn}
+use Rattle.system.specs.Products.{transposedGain, leftGain, Summing, summing-none, summing-next, summing-end, transposed-loaded, LeftTurn, left-turn}
 use borrow.Author.Needs.{needs}
 use native.Mathlib.Omega.{arith}
 use Rattle.system.proofs.products.add_left.Statement.{statement}
@@ -19,70 +19,78 @@ Inv-loop dst₀ at l v x stream number count n m buffer₀ j₀ dst buffer j =
 abbrev μ-loop : tie.MeasureT-loop
 μ-loop dst₀ at l v x stream number count n m buffer₀ j₀ dst buffer j = v - j
 
+abbrev start : tie.In-loop Inv-loop μ-loop → tie.Start Inv-loop μ-loop
+start c = c .before .before .before .before .before
+
+-- where block row j stands
+turn : (c : tie.In-loop Inv-loop μ-loop) → LeftTurn (start c .args .l) (start c .args .number) (start c .args .v) (start c .args .count) (c .before .loop .j)
+turn c =
+    let a = start c .args in
+    left-turn (a .l) (a .number) (a .v) (a .count) (start c .pre .1 .1 .0) (c .loop-test .taken)
+
 mul-n : tie.Need-mul-n Inv-loop μ-loop
 mul-n c =
-    omega (arith, le-mul-of-pos-right (c .before .before .before .args .count * c .before .before .before .args .l) (c .before .before .before .pre .1 .1 .0))
+    let s = c .before .before .before in
+    omega (arith, le-mul-of-pos-right (s .args .count * s .args .l) (s .pre .1 .1 .0))
 
 mul-m : tie.Need-mul-m Inv-loop μ-loop
 mul-m c =
-    omega (arith, mul-le-mul (c .before .before .before .pre .1 .1 .1) (c .before .before .before .pre .1 .1 .1))
+    let most = c .before .before .before .pre .1 .1 .1 in
+    omega (arith, mul-le-mul most most)
 
 loop-holds : tie.Need-loop-holds Inv-loop μ-loop
-loop-holds c =
-    (length-zeros 1200, summing-none)
+loop-holds c = (length-zeros 1200, summing-none)
 
 slice-aggregate-load-blocks : tie.Need-slice-aggregate-load-blocks Inv-loop μ-loop
-slice-aggregate-load-blocks c =
-    search needs
+slice-aggregate-load-blocks c = search needs
 
 mul-load-blocks : tie.Need-mul-load-blocks Inv-loop μ-loop
-mul-load-blocks c =
-    omega (arith, left-turn (c .before .before .before .before .before .before .args .l) (c .before .before .before .before .before .before .args .number) (c .before .before .before .before .before .before .args .v) (c .before .before .before .before .before .before .args .count) (c .before .before .before .before .before .before .pre .1 .1 .0) (c .before .loop-test .taken))
+mul-load-blocks c = omega (arith, turn (c .before))
 
 add-load-blocks : tie.Need-add-load-blocks Inv-loop μ-loop
-add-load-blocks c =
-    omega (arith, left-turn (c .before .before .before .before .before .before .args .l) (c .before .before .before .before .before .before .args .number) (c .before .before .before .before .before .before .args .v) (c .before .before .before .before .before .before .args .count) (c .before .before .before .before .before .before .pre .1 .1 .0) (c .before .loop-test .taken))
+add-load-blocks c = omega (arith, turn (c .before))
 
 load-blocks-requires : tie.Need-load-blocks-requires Inv-loop μ-loop
-load-blocks-requires c κs =
-    omega (arith, left-turn (c .before .before .before .before .before .before .args .l) (c .before .before .before .before .before .before .args .number) (c .before .before .before .before .before .before .args .v) (c .before .before .before .before .before .before .args .count) (c .before .before .before .before .before .before .pre .1 .1 .0) (c .before .loop-test .taken))
+load-blocks-requires c κs = omega (arith, turn (c .before))
 
 mul-add-transposed : tie.Need-mul-add-transposed Inv-loop μ-loop
 mul-add-transposed c =
-    omega (arith, mul-le-mul (c .before .before .before .before .before .before .before .before .before .pre .1 .1 .1) (mul-le-mul (c .before .before .before .before .before .before .before .before .before .pre .1 .1 .1) (c .before .before .before .before .before .before .before .before .before .pre .1 .1 .1)))
+    let most = start (c .before .before .before .before) .pre .1 .1 .1 in
+    omega (arith, mul-le-mul most (mul-le-mul most most))
 
 mul-add-transposed-2 : tie.Need-mul-add-transposed-2 Inv-loop μ-loop
-mul-add-transposed-2 c =
-    omega (arith, left-turn (c .before .before .before .before .before .before .before .before .before .args .l) (c .before .before .before .before .before .before .before .before .before .args .number) (c .before .before .before .before .before .before .before .before .before .args .v) (c .before .before .before .before .before .before .before .before .before .args .count) (c .before .before .before .before .before .before .before .before .before .pre .1 .1 .0) (c .before .before .before .before .loop-test .taken))
+mul-add-transposed-2 c = omega (arith, turn (c .before .before .before .before))
 
 slice-aggregate-add-transposed : tie.Need-slice-aggregate-add-transposed Inv-loop μ-loop
-slice-aggregate-add-transposed c =
-    search needs
+slice-aggregate-add-transposed c = search needs
 
 add-transposed-requires : tie.Need-add-transposed-requires Inv-loop μ-loop
 add-transposed-requires c κs =
-    omega (arith, left-turn (c .before .before .before .before .before .before .before .before .before .before .args .l) (c .before .before .before .before .before .before .before .before .before .before .args .number) (c .before .before .before .before .before .before .before .before .before .before .args .v) (c .before .before .before .before .before .before .before .before .before .before .args .count) (c .before .before .before .before .before .before .before .before .before .before .pre .1 .1 .0) (c .before .before .before .before .before .loop-test .taken), c .before .before .before .load-blocks .kept .0, (c .before .before .before .before .before .before .loop .inv) .1 .so-far .long)
+    let now = c .before .before .before .before .before in
+    omega (arith, turn now, c .before .before .before .load-blocks .kept .0, now .before .loop .inv .1 .so-far .long)
 
 add-j : tie.Need-add-j Inv-loop μ-loop
-add-j c =
-    search needs
+add-j c = search needs
 
 loop-less : tie.Need-loop-less Inv-loop μ-loop
-loop-less c =
-    search needs
+loop-less c = search needs
 
 loop-again : tie.Need-loop-again Inv-loop μ-loop
 loop-again c =
-    (omega (arith, c .before .before .before .before .before .before .load-blocks .kept .0), summing-next ((c .before .before .before .before .before .before .before .before .before .loop .inv) .1) (c .before .before .before .before .before .before .before .before .loop-test .taken) (transposed-loaded (c .before .before .before .before .before .before .before .before .before .before .before .before .before .args .x .now) (c .before .before .before .before .before .before .before .before .before .loop .j * ((c .before .before .before .before .before .before .before .before .before .before .before .before .before .args .l) * ((c .before .before .before .before .before .before .before .before .before .before .before .before .before .args .l) * (c .before .before .before .before .before .before .before .before .before .before .before .before .before .args .l)))) (c .before .before .before .before .before .before .before .before .before .before .before .before .before .args .l) (c .before .before .add-transposed .ensures) (c .before .before .before .before .before .before .load-blocks .ensures)))
+    let now = c .before .before .before .before .before .before .before .before in
+    let l = start now .args .l in
+    let loaded = c .before .before .before .before .before .before .load-blocks in (
+      omega (arith, loaded .kept .0),
+      summing-next (now .before .loop .inv .1) (now .loop-test .taken)
+          (transposed-loaded (start now .args .x .now) (now .before .loop .j * (l * (l * l))) l (c .before .before .add-transposed .ensures) (loaded .ensures)),
+    )
 
 same-length : tie.Need-same-length Inv-loop μ-loop
-same-length c =
-    search needs
+same-length c = search needs
 
 returns : tie.Need-returns Inv-loop μ-loop
 unfolding leftGain
-returns c =
-    summing-end ((c .before .loop .inv) .1) (c .loop-test .left)
+returns c = summing-end (c .before .loop .inv .1) (c .loop-test .left)
 
 pub add-left-spec : {M : Type 1} → statement M
 add-left-spec =

@@ -2,7 +2,7 @@
 use mathlib.Core.Path.{refl}
 use Prim.Native.Nat.{_+_, _*_, _-_, _<_, _≤_}
 use native.Mathlib.Nat.{le-mul-of-pos-right}
-use Rattle.system.specs.Products.{Adding, adding-none, adding-next, adding-end, productsRow, product-turn}
+use Rattle.system.specs.Products.{Adding, adding-none, adding-next, adding-end, productsRow, ProductTurn, product-turn}
 use borrow.Author.Needs.{needs}
 use native.Mathlib.Omega.{arith}
 use Rattle.system.proofs.products.add_products.Statement.{statement}
@@ -14,61 +14,62 @@ Inv-loop dst₀ at n stream number l a count src total y₀ dst y = Adding dst�
 abbrev μ-loop : tie.MeasureT-loop
 μ-loop dst₀ at n stream number l a count src total y₀ dst y = total - y
 
+abbrev start : tie.In-loop Inv-loop μ-loop → tie.Start Inv-loop μ-loop
+start c = c .before .before .before .before .before
+
+-- where row y reads and writes
+turn : (c : tie.In-loop Inv-loop μ-loop)
+    → ProductTurn (start c .args .l) (start c .args .n) (start c .args .number) (start c .args .a) (start c .args .count) (c .before .loop .y)
+turn c =
+    let a = start c .args in
+    product-turn (a .l) (a .n) (a .number) (a .a) (a .count) (start c .pre .1 .1 .1 .1) (c .loop-test .taken)
+
+-- the count of rows is small, since a row has a byte
 mul-total : tie.Need-mul-total Inv-loop μ-loop
 mul-total c =
-    omega (arith, le-mul-of-pos-right (c .before .before .before .args .a * c .before .before .before .args .l) (c .before .before .before .pre .1 .1 .1 .0))
+    let s = c .before .before .before in
+    omega (arith, le-mul-of-pos-right (s .args .a * s .args .l) (s .pre .1 .1 .1 .0))
 
 loop-holds : tie.Need-loop-holds Inv-loop μ-loop
-loop-holds c =
-    adding-none
+loop-holds c = adding-none
 
 mul-add-product-row : tie.Need-mul-add-product-row Inv-loop μ-loop
-mul-add-product-row c =
-    omega (arith, product-turn (c .before .before .before .before .before .before .args .l) (c .before .before .before .before .before .before .args .n) (c .before .before .before .before .before .before .args .number) (c .before .before .before .before .before .before .args .a) (c .before .before .before .before .before .before .args .count) (c .before .before .before .before .before .before .pre .1 .1 .1 .1) (c .before .loop-test .taken))
+mul-add-product-row c = omega (arith, turn (c .before))
 
 add-add-product-row : tie.Need-add-add-product-row Inv-loop μ-loop
-add-add-product-row c =
-    omega (arith, product-turn (c .before .before .before .before .before .before .args .l) (c .before .before .before .before .before .before .args .n) (c .before .before .before .before .before .before .args .number) (c .before .before .before .before .before .before .args .a) (c .before .before .before .before .before .before .args .count) (c .before .before .before .before .before .before .pre .1 .1 .1 .1) (c .before .loop-test .taken))
+add-add-product-row c = omega (arith, turn (c .before))
 
 div-add-product-row : tie.Need-div-add-product-row Inv-loop μ-loop
-div-add-product-row c =
-    omega (arith, product-turn (c .before .before .before .before .before .before .args .l) (c .before .before .before .before .before .before .args .n) (c .before .before .before .before .before .before .args .number) (c .before .before .before .before .before .before .args .a) (c .before .before .before .before .before .before .args .count) (c .before .before .before .before .before .before .pre .1 .1 .1 .1) (c .before .loop-test .taken))
+div-add-product-row c = omega (arith, turn (c .before))
 
 mul-add-product-row-2 : tie.Need-mul-add-product-row-2 Inv-loop μ-loop
-mul-add-product-row-2 c =
-    omega (arith, product-turn (c .before .before .before .before .before .before .args .l) (c .before .before .before .before .before .before .args .n) (c .before .before .before .before .before .before .args .number) (c .before .before .before .before .before .before .args .a) (c .before .before .before .before .before .before .args .count) (c .before .before .before .before .before .before .pre .1 .1 .1 .1) (c .before .loop-test .taken))
+mul-add-product-row-2 c = omega (arith, turn (c .before))
 
 add-add-product-row-2 : tie.Need-add-add-product-row-2 Inv-loop μ-loop
-add-add-product-row-2 c =
-    omega (arith, product-turn (c .before .before .before .before .before .before .args .l) (c .before .before .before .before .before .before .args .n) (c .before .before .before .before .before .before .args .number) (c .before .before .before .before .before .before .args .a) (c .before .before .before .before .before .before .args .count) (c .before .before .before .before .before .before .pre .1 .1 .1 .1) (c .before .loop-test .taken))
+add-add-product-row-2 c = omega (arith, turn (c .before))
 
 rem-add-product-row : tie.Need-rem-add-product-row Inv-loop μ-loop
-rem-add-product-row c =
-    omega (arith, product-turn (c .before .before .before .before .before .before .args .l) (c .before .before .before .before .before .before .args .n) (c .before .before .before .before .before .before .args .number) (c .before .before .before .before .before .before .args .a) (c .before .before .before .before .before .before .args .count) (c .before .before .before .before .before .before .pre .1 .1 .1 .1) (c .before .loop-test .taken))
+rem-add-product-row c = omega (arith, turn (c .before))
 
 add-product-row-requires : tie.Need-add-product-row-requires Inv-loop μ-loop
-add-product-row-requires c κs =
-    omega (arith, product-turn (c .before .before .before .before .before .before .args .l) (c .before .before .before .before .before .before .args .n) (c .before .before .before .before .before .before .args .number) (c .before .before .before .before .before .before .args .a) (c .before .before .before .before .before .before .args .count) (c .before .before .before .before .before .before .pre .1 .1 .1 .1) (c .before .loop-test .taken), c .before .before .loop .inv .so-far .long)
+add-product-row-requires c κs = omega (arith, turn (c .before), c .before .before .loop .inv .so-far .long)
 
 add-y : tie.Need-add-y Inv-loop μ-loop
-add-y c =
-    omega (arith, le-mul-of-pos-right (c .before .before .before .before .before .before .before .before .before .args .a * c .before .before .before .before .before .before .before .before .before .args .l) (c .before .before .before .before .before .before .before .before .before .pre .1 .1 .1 .0))
+add-y c = omega (arith, c .before .before .before .before .loop-test .taken, mul-total (c .before .before .before .before .before .before))
 
 loop-less : tie.Need-loop-less Inv-loop μ-loop
-loop-less c =
-    search needs
+loop-less c = search needs
 
 loop-again : tie.Need-loop-again Inv-loop μ-loop
 loop-again c =
-    adding-next (c .before .before .before .before .before .loop .inv) (c .before .before .before .before .loop-test .taken) (c .before .before .add-product-row .ensures)
+    let now = c .before .before .before .before in
+    adding-next (now .before .loop .inv) (now .loop-test .taken) (c .before .before .add-product-row .ensures)
 
 same-length : tie.Need-same-length Inv-loop μ-loop
-same-length c =
-    search needs
+same-length c = search needs
 
 returns : tie.Need-returns Inv-loop μ-loop
-returns c =
-    adding-end (c .before .loop .inv) (c .loop-test .left)
+returns c = adding-end (c .before .loop .inv) (c .loop-test .left)
 
 pub add-products-spec : {M : Type 1} → statement M
 add-products-spec =

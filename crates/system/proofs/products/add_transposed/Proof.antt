@@ -1,5 +1,4 @@
 -- `system::products::add_transposed` meets its contract. The invariant: the first y rows have gained. Rests on Products.
-use mathlib.Core.Path.{refl}
 use Prim.Native.Nat.{_+_, _*_, _-_, _<_, _≤_}
 use native.Mathlib.Nat.{mul-le-mul-right}
 use lib.Arith.{digits-lt}
@@ -16,45 +15,50 @@ Inv-loop dst₀ at n scalars place m count src y₀ dst y = Adding dst₀ at m n
 abbrev μ-loop : tie.MeasureT-loop
 μ-loop dst₀ at n scalars place m count src y₀ dst y = m - y
 
+abbrev start : tie.In-loop Inv-loop μ-loop → tie.Start Inv-loop μ-loop
+start c = c .before .before .before .before .before
+
+-- row y ends within the rows that gain
+row : (c : tie.In-loop Inv-loop μ-loop) → c .before .loop .y * start c .args .n + start c .args .n ≤ start c .args .m * start c .args .n
+row c = row-fits (start c .args .n) (c .loop-test .taken)
+
 loop-holds : tie.Need-loop-holds Inv-loop μ-loop
-loop-holds c =
-    adding-none
+loop-holds c = adding-none
 
 mul-add-columns : tie.Need-mul-add-columns Inv-loop μ-loop
-mul-add-columns c =
-    omega (arith, row-fits (c .before .before .before .before .before .before .args .n) (c .before .loop-test .taken))
+mul-add-columns c = omega (arith, row (c .before))
 
 add-add-columns : tie.Need-add-add-columns Inv-loop μ-loop
-add-add-columns c =
-    omega (arith, row-fits (c .before .before .before .before .before .before .args .n) (c .before .loop-test .taken))
+add-add-columns c = omega (arith, row (c .before))
 
 add-add-columns-2 : tie.Need-add-add-columns-2 Inv-loop μ-loop
 add-add-columns-2 c =
-    omega (arith, mul-le-mul-right (c .before .before .before .before .before .before .args .m) (c .before .before .before .before .before .before .pre .1 .1 .1))
+    let s = start (c .before) in
+    omega (arith, mul-le-mul-right (s .args .m) (s .pre .1 .1 .1))
 
 add-columns-requires : tie.Need-add-columns-requires Inv-loop μ-loop
 add-columns-requires c κs =
-    (omega (arith, row-fits (c .before .before .before .before .before .before .args .n) (c .before .loop-test .taken), c .before .before .loop .inv .so-far .long), λ x h. omega (arith, digits-lt h (c .before .loop-test .taken)))
+    let now = c .before in
+    (omega (arith, row now, now .before .loop .inv .so-far .long), λ x h. omega (arith, digits-lt h (now .loop-test .taken)))
 
 add-y : tie.Need-add-y Inv-loop μ-loop
-add-y c =
-    search needs
+add-y c = search needs
 
 loop-less : tie.Need-loop-less Inv-loop μ-loop
-loop-less c =
-    search needs
+loop-less c = search needs
 
 loop-again : tie.Need-loop-again Inv-loop μ-loop
 loop-again c =
-    adding-next (c .before .before .before .before .before .loop .inv) (c .before .before .before .before .loop-test .taken) (transposed-row (c .before .before .before .before .before .before .before .before .before .args .scalars .now) (c .before .before .before .before .before .before .before .before .before .args .place) (c .before .before .before .before .before .before .before .before .before .args .m) (c .before .before .before .before .before .before .before .before .before .args .count) (c .before .before .before .before .before .before .before .before .before .args .src .now) (c .before .before .before .before .before .loop .y) (c .before .before .add-columns .ensures))
+    let now = c .before .before .before .before in
+    let a = start now .args in
+    adding-next (now .before .loop .inv) (now .loop-test .taken)
+    (transposed-row (a .scalars .now) (a .place) (a .m) (a .count) (a .src .now) (now .before .loop .y) (c .before .before .add-columns .ensures))
 
 same-length : tie.Need-same-length Inv-loop μ-loop
-same-length c =
-    search needs
+same-length c = search needs
 
 returns : tie.Need-returns Inv-loop μ-loop
-returns c =
-    adding-end (c .before .loop .inv) (c .loop-test .left)
+returns c = adding-end (c .before .loop .inv) (c .loop-test .left)
 
 pub add-transposed-spec : {M : Type 1} → statement M
 add-transposed-spec =

@@ -1,5 +1,4 @@
 -- `system::products::load_blocks` meets its contract. The invariant: the first r rows are loaded. Rests on Products.
-use mathlib.Core.Path.{refl}
 use Prim.Native.Nat.{_+_, _*_, _-_, _<_, _≤_}
 use native.Mathlib.Nat.{le-mul-of-pos-right}
 use Rattle.ground.specs.Place.{row-fits}
@@ -16,45 +15,49 @@ Inv-loop dst₀ l stream number count n r₀ dst r = Adding dst₀ 0 l (count * 
 abbrev μ-loop : tie.MeasureT-loop
 μ-loop dst₀ l stream number count n r₀ dst r = l - r
 
-clear-requires : tie.Need-clear-requires Inv-loop μ-loop
-clear-requires c κs =
-    search needs
+abbrev start : tie.At-loop Inv-loop μ-loop → tie.Start Inv-loop μ-loop
+start c = c .before .before .before .before .before .before .before
+
+-- row r ends within the rows
+row : (c : tie.In-loop Inv-loop μ-loop)
+    → c .before .loop .r * (start (c .before) .args .count * start (c .before) .args .l) + start (c .before) .args .count * start (c .before) .args .l
+    ≤ start (c .before) .args .l * (start (c .before) .args .count * start (c .before) .args .l)
+row c = row-fits (start (c .before) .args .count * start (c .before) .args .l) (c .loop-test .taken)
 
 mul-n : tie.Need-mul-n Inv-loop μ-loop
 mul-n c =
-    omega (arith, le-mul-of-pos-right (c .before .before .before .before .before .before .args .count * c .before .before .before .before .before .before .args .l) (c .before .before .before .before .before .before .pre .1 .1))
+    let s = c .before .before .before .before .before .before in
+    omega (arith, le-mul-of-pos-right (s .args .count * s .args .l) (s .pre .1 .1))
 
 loop-holds : tie.Need-loop-holds Inv-loop μ-loop
-loop-holds c =
-    adding-none
+loop-holds c = adding-none
 
 mul-add-block-row : tie.Need-mul-add-block-row Inv-loop μ-loop
-mul-add-block-row c =
-    omega (arith, row-fits (c .before .before .before .before .before .before .before .before .before .args .count * c .before .before .before .before .before .before .before .before .before .args .l) (c .before .loop-test .taken))
+mul-add-block-row c = omega (arith, row (c .before))
 
 add-block-row-requires : tie.Need-add-block-row-requires Inv-loop μ-loop
 add-block-row-requires c κs =
-    omega (arith, row-fits (c .before .before .before .before .before .before .before .before .before .args .count * c .before .before .before .before .before .before .before .before .before .args .l) (c .before .loop-test .taken), c .before .before .loop .inv .so-far .long, c .before .before .before .before .before .clear .kept .0)
+    let at = c .before .before in
+    omega (arith, row (c .before), at .loop .inv .so-far .long, at .before .before .before .clear .kept .0)
 
 add-r : tie.Need-add-r Inv-loop μ-loop
-add-r c =
-    search needs
+add-r c = search needs
 
 loop-less : tie.Need-loop-less Inv-loop μ-loop
-loop-less c =
-    search needs
+loop-less c = search needs
 
 loop-again : tie.Need-loop-again Inv-loop μ-loop
 loop-again c =
-    adding-next-at (c .before .before .before .before .before .loop .inv) (c .before .before .before .before .loop-test .taken) (omega arith) (c .before .before .add-block-row .ensures)
+    let now = c .before .before .before .before in
+    adding-next-at (now .before .loop .inv) (now .loop-test .taken) (omega arith) (c .before .before .add-block-row .ensures)
 
 same-length : tie.Need-same-length Inv-loop μ-loop
-same-length c =
-    search needs
+same-length c = search needs
 
 returns : tie.Need-returns Inv-loop μ-loop
 returns c =
-    zero-rows-from (c .before .before .before .before .before .before .before .before .args .dst .now) (c .before .before .before .before .clear .ensures) (adding-end (c .before .loop .inv) (c .loop-test .left))
+    let at = c .before in
+    zero-rows-from (start at .args .dst .now) (at .before .before .before .clear .ensures) (adding-end (at .loop .inv) (c .loop-test .left))
 
 pub load-blocks-spec : {M : Type 1} → statement M
 load-blocks-spec =
@@ -62,7 +65,7 @@ load-blocks-spec =
     (tie.spec
     Inv-loop
     μ-loop
-    clear-requires
+    (λ _ _. tt)
     mul-n
     loop-holds
     mul-add-block-row

@@ -1,90 +1,75 @@
--- `system::right::add_right_index` meets its contract: the gains one after the other. Rests on Products and Places.
+-- `system::right::add_right_index` meets its contract: the sums with P21 are added, then T12 transposed times those with P11. Rests on Products and Places.
 use Prim.Native.Nat.{_*_}
+use lib.ListN.{length}
 use Rattle.rows.specs.PlusRows.{rows-then}
-use Rattle.system.specs.Products.{transposed-loaded}
-use Rattle.system.specs.Places.{public-places, table-sizes}
-use borrow.Author.Needs.{needs}
+use Rattle.tables.specs.Rooms.{kept-room}
+use Rattle.system.specs.Products.{products-at, transposed-loaded}
+use Rattle.system.specs.Places.{PublicPlaces, public-places, number-within, TableSizes, table-sizes}
 use native.Mathlib.Omega.{arith}
+use borrow.Author.Needs.{needs}
 use Rattle.system.proofs.right.add_right_index.Statement.{statement}
 use Rattle.system.proofs.right.add_right_index.Tie as tie
 
+-- where the blocks of matrix index i stand, and the sizes of the tables
+places : (s : tie.Start) → PublicPlaces (s .args .set) (s .args .i) (length (s .args .public .now))
+places s = public-places (s .pre .0 .0) (s .pre .0 .1 .0) (s .pre .1 .0 .0)
+
+sizes : (s : tie.Start) → TableSizes (s .args .set)
+sizes s = table-sizes (s .pre .0 .0)
+
+p21-number-requires : tie.Need-p21-number-requires
+p21-number-requires c κs =
+    let s = c .before .before .before .before .before in
+    (s .pre .0 .0, s .pre .0 .1 .0, sizes s .positive-o)
+
 mul-add-products : tie.Need-mul-add-products
 mul-add-products c =
-    omega (arith, public-places (c .before .before .before .before .before .before .pre .0 .0) (c .before .before .before .before .before .before .pre .0 .1 .0) (c .before .before .before .before .before .before .pre .1 .0 .0), table-sizes (c .before .before .before .before .before .before .pre .0 .0))
-
-mul-add-products-2 : tie.Need-mul-add-products-2
-mul-add-products-2 c =
-    omega (arith, public-places (c .before .before .before .before .before .before .pre .0 .0) (c .before .before .before .before .before .before .pre .0 .1 .0) (c .before .before .before .before .before .before .pre .1 .0 .0), table-sizes (c .before .before .before .before .before .before .pre .0 .0))
-
-mul-add-products-3 : tie.Need-mul-add-products-3
-mul-add-products-3 c =
-    omega (arith, public-places (c .before .before .before .before .before .before .pre .0 .0) (c .before .before .before .before .before .before .pre .0 .1 .0) (c .before .before .before .before .before .before .pre .1 .0 .0), table-sizes (c .before .before .before .before .before .before .pre .0 .0))
-
-mul-add-products-4 : tie.Need-mul-add-products-4
-mul-add-products-4 c =
-    omega (arith, public-places (c .before .before .before .before .before .before .pre .0 .0) (c .before .before .before .before .before .before .pre .0 .1 .0) (c .before .before .before .before .before .before .pre .1 .0 .0), table-sizes (c .before .before .before .before .before .before .pre .0 .0))
-
-mul-add-products-5 : tie.Need-mul-add-products-5
-mul-add-products-5 c =
-    omega (arith, public-places (c .before .before .before .before .before .before .pre .0 .0) (c .before .before .before .before .before .before .pre .0 .1 .0) (c .before .before .before .before .before .before .pre .1 .0 .0), table-sizes (c .before .before .before .before .before .before .pre .0 .0))
-
-add-add-products : tie.Need-add-add-products
-add-add-products c =
-    omega (arith, public-places (c .before .before .before .before .before .before .pre .0 .0) (c .before .before .before .before .before .before .pre .0 .1 .0) (c .before .before .before .before .before .before .pre .1 .0 .0), table-sizes (c .before .before .before .before .before .before .pre .0 .0))
-
-mul-add-products-6 : tie.Need-mul-add-products-6
-mul-add-products-6 c =
-    omega (arith, public-places (c .before .before .before .before .before .before .pre .0 .0) (c .before .before .before .before .before .before .pre .0 .1 .0) (c .before .before .before .before .before .before .pre .1 .0 .0), table-sizes (c .before .before .before .before .before .before .pre .0 .0))
-
-mul-add-products-7 : tie.Need-mul-add-products-7
-mul-add-products-7 c =
-    omega (arith, public-places (c .before .before .before .before .before .before .pre .0 .0) (c .before .before .before .before .before .before .pre .0 .1 .0) (c .before .before .before .before .before .before .pre .1 .0 .0), table-sizes (c .before .before .before .before .before .before .pre .0 .0))
-
-add-add-products-2 : tie.Need-add-add-products-2
-add-add-products-2 c =
-    omega (arith, public-places (c .before .before .before .before .before .before .pre .0 .0) (c .before .before .before .before .before .before .pre .0 .1 .0) (c .before .before .before .before .before .before .pre .1 .0 .0), table-sizes (c .before .before .before .before .before .before .pre .0 .0))
+    omega (arith, sizes (c .before .before .before .before .before .before .before) .ll)
 
 add-products-requires : tie.Need-add-products-requires
 add-products-requires c κs =
-    omega (arith, public-places (c .before .before .before .before .before .before .pre .0 .0) (c .before .before .before .before .before .before .pre .0 .1 .0) (c .before .before .before .before .before .before .pre .1 .0 .0), table-sizes (c .before .before .before .before .before .before .pre .0 .0))
+    let s = c .before .before .before .before .before .before .before in
+    let set = s .args .set in
+    let p21 = number-within (set .o * set .v) (set .l * set .l) (c .before .p21-number .ensures .is) (places s .p21) in
+    (s .pre .0 .1 .1, (p21, (s .pre .1 .0 .1 .0, (sizes s .square, sizes s .positive-l))))
 
 mul-add-transposed : tie.Need-mul-add-transposed
 mul-add-transposed c =
-    omega (arith, public-places (c .before .before .before .before .before .before .before .before .before .before .pre .0 .0) (c .before .before .before .before .before .before .before .before .before .before .pre .0 .1 .0) (c .before .before .before .before .before .before .before .before .before .before .pre .1 .0 .0), table-sizes (c .before .before .before .before .before .before .before .before .before .before .pre .0 .0))
+    omega (arith, sizes (c .before .before .before .before .before .before .before .before .before .before .before) .ll)
 
 mul-add-transposed-2 : tie.Need-mul-add-transposed-2
 mul-add-transposed-2 c =
-    omega (arith, public-places (c .before .before .before .before .before .before .before .before .before .before .pre .0 .0) (c .before .before .before .before .before .before .before .before .before .before .pre .0 .1 .0) (c .before .before .before .before .before .before .before .before .before .before .pre .1 .0 .0), table-sizes (c .before .before .before .before .before .before .before .before .before .before .pre .0 .0))
+    omega (arith, sizes (c .before .before .before .before .before .before .before .before .before .before .before) .ol)
 
 mul-add-transposed-3 : tie.Need-mul-add-transposed-3
 mul-add-transposed-3 c =
-    omega (arith, public-places (c .before .before .before .before .before .before .before .before .before .before .pre .0 .0) (c .before .before .before .before .before .before .before .before .before .before .pre .0 .1 .0) (c .before .before .before .before .before .before .before .before .before .before .pre .1 .0 .0), table-sizes (c .before .before .before .before .before .before .before .before .before .before .pre .0 .0))
+    omega (arith, sizes (c .before .before .before .before .before .before .before .before .before .before .before) .vl)
 
 add-transposed-requires : tie.Need-add-transposed-requires
 add-transposed-requires c κs =
-    omega (arith, table-sizes (c .before .before .before .before .before .before .before .before .before .before .pre .0 .0), c .before .before .before .add-products .kept .0)
+    let s = c .before .before .before .before .before .before .before .before .before .before .before in (
+      kept-room (s .pre .0 .1 .1) (c .before .before .before .add-products .kept .0),
+      (omega (arith, s .pre .1 .0 .1 .1), (s .pre .1 .1 .1, sizes s .rows)),
+    )
 
 same-length : tie.Need-same-length
-same-length c =
-    search needs
+same-length c = search needs
 
 returns : tie.Need-returns
 returns c =
-    rows-then (c .before .before .before .before .before .before .add-products .ensures) (transposed-loaded (c .before .before .before .before .before .before .before .before .before .before .before .before .before .args .t .now) 0 (c .before .before .before .before .before .before .before .before .before .before .before .before .before .args .set .v * c .before .before .before .before .before .before .before .before .before .before .before .before .before .args .set .l) (c .before .before .add-transposed .ensures) (c .before .before .before .before .before .before .before .before .before .before .before .before .before .pre .1 .1 .0))
+    let s = c .before .before .before .before .before .before .before .before .before .before .before .before .before .before in
+    let a = s .args in
+    let set = a .set in
+    let p21 =
+    products-at (set .l) (a .public .now) (set .v) (a .x .now) (set .l * set .l) (c .before .before .before .before .before .before .before .before .p21-number .ensures .is) (c .before .before .before .before .before .before .add-products .ensures) in
+    rows-then p21 (transposed-loaded (a .t .now) 0 (set .v * set .l) (c .before .before .add-transposed .ensures) (s .pre .1 .1 .0))
 
 pub add-right-index-spec : {M : Type 1} → statement M
 add-right-index-spec =
     tie.close
     (tie.spec
+    p21-number-requires
     mul-add-products
-    mul-add-products-2
-    mul-add-products-3
-    mul-add-products-4
-    mul-add-products-5
-    add-add-products
-    mul-add-products-6
-    mul-add-products-7
-    add-add-products-2
     add-products-requires
     mul-add-transposed
     mul-add-transposed-2

@@ -1,47 +1,57 @@
--- `system::right::load_products` meets its contract. Rests on Products and Places.
-use Rattle.system.specs.Products.{zero-rows-from}
-use Rattle.system.specs.Places.{public-places, table-sizes}
-use borrow.Author.Needs.{needs}
+-- `system::right::load_products` meets its contract: zeros that gain the sums with P11. Rests on Products and Places.
+use Prim.Native.Nat.{_*_}
+use lib.ListN.{length}
+use Rattle.system.specs.Products.{products-at, zero-rows-from}
+use Rattle.system.specs.Places.{PublicPlaces, public-places, number-within, TableSizes, table-sizes}
 use native.Mathlib.Omega.{arith}
+use borrow.Author.Needs.{needs}
 use Rattle.system.proofs.right.load_products.Statement.{statement}
 use Rattle.system.proofs.right.load_products.Tie as tie
 
+-- where the blocks of matrix index i stand, and the sizes of the tables
+places : (s : tie.Start) → PublicPlaces (s .args .set) (s .args .i) (length (s .args .public .now))
+places s = public-places (s .pre .0 .0) (s .pre .0 .1 .0) (s .pre .1 .0)
+
+sizes : (s : tie.Start) → TableSizes (s .args .set)
+sizes s = table-sizes (s .pre .0 .0)
+
 clear-requires : tie.Need-clear-requires
-clear-requires c κs =
-    search needs
+clear-requires c κs = search needs
+
+p11-number-requires : tie.Need-p11-number-requires
+p11-number-requires c κs =
+    let s = c .before .before .before .before .before .before .before in
+    (s .pre .0 .0, s .pre .0 .1 .0, sizes s .positive-v)
 
 mul-add-products : tie.Need-mul-add-products
 mul-add-products c =
-    omega (arith, public-places (c .before .before .before .before .before .before .before .before .pre .0 .0) (c .before .before .before .before .before .before .before .before .pre .0 .1 .0) (c .before .before .before .before .before .before .before .before .pre .1 .0), table-sizes (c .before .before .before .before .before .before .before .before .pre .0 .0))
-
-mul-add-products-2 : tie.Need-mul-add-products-2
-mul-add-products-2 c =
-    omega (arith, public-places (c .before .before .before .before .before .before .before .before .pre .0 .0) (c .before .before .before .before .before .before .before .before .pre .0 .1 .0) (c .before .before .before .before .before .before .before .before .pre .1 .0), table-sizes (c .before .before .before .before .before .before .before .before .pre .0 .0))
-
-mul-add-products-3 : tie.Need-mul-add-products-3
-mul-add-products-3 c =
-    omega (arith, public-places (c .before .before .before .before .before .before .before .before .pre .0 .0) (c .before .before .before .before .before .before .before .before .pre .0 .1 .0) (c .before .before .before .before .before .before .before .before .pre .1 .0), table-sizes (c .before .before .before .before .before .before .before .before .pre .0 .0))
+    omega (arith, sizes (c .before .before .before .before .before .before .before .before .before) .ll)
 
 add-products-requires : tie.Need-add-products-requires
 add-products-requires c κs =
-    omega (arith, public-places (c .before .before .before .before .before .before .before .before .pre .0 .0) (c .before .before .before .before .before .before .before .before .pre .0 .1 .0) (c .before .before .before .before .before .before .before .before .pre .1 .0), table-sizes (c .before .before .before .before .before .before .before .before .pre .0 .0), c .before .before .before .clear .kept .0)
+    let s = c .before .before .before .before .before .before .before .before .before in
+    let set = s .args .set in
+    let p11 = number-within (set .v * set .v) (set .l * set .l) (c .before .p11-number .ensures .is) (places s .p11) in
+    (omega (arith, s .pre .0 .1 .1, c .before .before .before .before .clear .kept .0), (p11, (s .pre .1 .1, (sizes s .square, sizes s .positive-l))))
 
 same-length : tie.Need-same-length
-same-length c =
-    search needs
+same-length c = search needs
 
 returns : tie.Need-returns
 returns c =
-    zero-rows-from (c .before .before .before .before .before .before .before .before .before .before .before .args .y .now) (c .before .before .before .before .before .before .clear .ensures) (c .before .before .add-products .ensures)
+    let a = c .before .before .before .before .before .before .before .before .before .before .before .before .args in
+    let set = a .set in
+    let p11 =
+    products-at (set .l) (a .public .now) (set .v) (a .x .now) (set .l * set .l) (c .before .before .before .before .p11-number .ensures .is) (c .before .before .add-products .ensures) in
+    zero-rows-from (a .y .now) (c .before .before .before .before .before .before .before .clear .ensures) p11
 
 pub load-products-spec : {M : Type 1} → statement M
 load-products-spec =
     tie.close
     (tie.spec
     clear-requires
+    p11-number-requires
     mul-add-products
-    mul-add-products-2
-    mul-add-products-3
     add-products-requires
     same-length
     returns)

@@ -1,13 +1,13 @@
--- `system::sides::fill_sides` meets its contract. The invariant: the first k blocks are there. Rests on Sides and Products.
-use mathlib.Core.Path.{_≡_, ap}
-use Prim.Native.Nat.{_+_, _*_, _/_, _%_, _-_, _<_, _≤_}
+-- `system::sides::fill_sides` meets its contract. The invariant: the first k blocks are there, and zeros behind them. Rests on Sides and Products.
+use mathlib.Core.Path.{_≡_, ap, sym, _∙_}
+use Prim.Native.Nat.{ℕ, _+_, _*_, _-_, _<_, _≤_}
 use lib.ListN.{length}
-use native.Mathlib.Nat.{le-mul-of-pos-right}
+use Rattle.matrix.specs.Matrix.{Matrix}
 use Rattle.matrix.specs.Block.{view, length-block}
 use Rattle.matrix.specs.RingElements.{coefficient}
 use Rattle.scheme.specs.Streams.{groupOf}
 use Rattle.system.specs.Products.{Adding, adding-none, adding-next-at, adding-end}
-use Rattle.system.specs.Sides.{sideRow, sideOf, side-row, sides-filled, row-small}
+use Rattle.system.specs.Sides.{sideOf, sideRow, side-row, sides-filled, TileFits, tile-fits}
 use borrow.Author.Needs.{needs}
 use native.Mathlib.Omega.{arith}
 use Rattle.system.proofs.sides.fill_sides.Statement.{statement}
@@ -20,69 +20,98 @@ Inv-loop out₀ l count first last table w row down across abq group k₀ out k 
 abbrev μ-loop : tie.MeasureT-loop
 μ-loop out₀ l count first last table w row down across abq group k₀ out k = count - k
 
-clear-requires : tie.Need-clear-requires Inv-loop μ-loop
-clear-requires c κs =
-    search needs
+abbrev start : tie.At-loop Inv-loop μ-loop → tie.Start Inv-loop μ-loop
+start c = c .before .before .before .before .before .before .before .before
+
+-- the coefficients of the group
+abbrev group : tie.Start Inv-loop μ-loop → ℕ → ℕ
+group s = coefficient (s .args .l) (groupOf (s .args .l) (s .args .abq .now) (s .args .group))
+
+-- the first block of the sum of this turn stands in the table
+turn : (c : tie.In-loop Inv-loop μ-loop)
+    → TileFits (start (c .before) .args .l) (start (c .before) .args .w)
+    (start (c .before) .args .row + c .before .loop .k * start (c .before) .args .across + 0 * start (c .before) .args .down)
+    (c .before .loop .k * start (c .before) .args .down + 0 * start (c .before) .args .across) (length (start (c .before) .args .table .now))
+turn c =
+    let s = start (c .before) in
+    let here = s .pre .1 (c .before .loop .k) 0 (c .loop-test .taken) (s .pre .0 .0) in
+    tile-fits (s .pre .0 .0) (here .0) (here .1)
 
 loop-holds : tie.Need-loop-holds Inv-loop μ-loop
-loop-holds c =
-    adding-none
+loop-holds c = adding-none
 
 mul-combined : tie.Need-mul-combined Inv-loop μ-loop
-mul-combined c =
-    let f = c .before .before .before .before .before .before .before .before .before .pre .1 (c .before .loop .k) 0 (c .loop-test .taken) (c .before .before .before .before .before .before .before .before .before .pre .0 .0) in let hw : c .before .before .before .before .before .before .before .before .before .args .l ≤ c .before .before .before .before .before .before .before .before .before .args .w = omega (arith, f .1) in omega (arith, row-small (c .before .before .before .before .before .before .before .before .before .args .row + c .before .loop .k * c .before .before .before .before .before .before .before .before .before .args .across + 0 * c .before .before .before .before .before .before .before .before .before .args .down) (c .before .before .before .before .before .before .before .before .before .args .l) (c .before .before .before .before .before .before .before .before .before .args .w) (length (c .before .before .before .before .before .before .before .before .before .args .table .now)) (c .before .before .before .before .before .before .before .before .before .pre .0 .0) hw (f .0), le-mul-of-pos-right (c .before .loop .k * c .before .before .before .before .before .before .before .before .before .args .down + 0 * c .before .before .before .before .before .before .before .before .before .args .across + 1) (c .before .before .before .before .before .before .before .before .before .pre .0 .0), f .1)
+mul-combined c = omega (arith, turn c)
 
 add-combined : tie.Need-add-combined Inv-loop μ-loop
-add-combined c =
-    let f = c .before .before .before .before .before .before .before .before .before .pre .1 (c .before .loop .k) 0 (c .loop-test .taken) (c .before .before .before .before .before .before .before .before .before .pre .0 .0) in let hw : c .before .before .before .before .before .before .before .before .before .args .l ≤ c .before .before .before .before .before .before .before .before .before .args .w = omega (arith, f .1) in omega (arith, row-small (c .before .before .before .before .before .before .before .before .before .args .row + c .before .loop .k * c .before .before .before .before .before .before .before .before .before .args .across + 0 * c .before .before .before .before .before .before .before .before .before .args .down) (c .before .before .before .before .before .before .before .before .before .args .l) (c .before .before .before .before .before .before .before .before .before .args .w) (length (c .before .before .before .before .before .before .before .before .before .args .table .now)) (c .before .before .before .before .before .before .before .before .before .pre .0 .0) hw (f .0), le-mul-of-pos-right (c .before .loop .k * c .before .before .before .before .before .before .before .before .before .args .down + 0 * c .before .before .before .before .before .before .before .before .before .args .across + 1) (c .before .before .before .before .before .before .before .before .before .pre .0 .0), f .1)
+add-combined c = omega (arith, turn c)
 
 mul-combined-2 : tie.Need-mul-combined-2 Inv-loop μ-loop
-mul-combined-2 c =
-    let f = c .before .before .before .before .before .before .before .before .before .pre .1 (c .before .loop .k) 0 (c .loop-test .taken) (c .before .before .before .before .before .before .before .before .before .pre .0 .0) in let hw : c .before .before .before .before .before .before .before .before .before .args .l ≤ c .before .before .before .before .before .before .before .before .before .args .w = omega (arith, f .1) in omega (arith, row-small (c .before .before .before .before .before .before .before .before .before .args .row + c .before .loop .k * c .before .before .before .before .before .before .before .before .before .args .across + 0 * c .before .before .before .before .before .before .before .before .before .args .down) (c .before .before .before .before .before .before .before .before .before .args .l) (c .before .before .before .before .before .before .before .before .before .args .w) (length (c .before .before .before .before .before .before .before .before .before .args .table .now)) (c .before .before .before .before .before .before .before .before .before .pre .0 .0) hw (f .0), le-mul-of-pos-right (c .before .loop .k * c .before .before .before .before .before .before .before .before .before .args .down + 0 * c .before .before .before .before .before .before .before .before .before .args .across + 1) (c .before .before .before .before .before .before .before .before .before .pre .0 .0), f .1)
+mul-combined-2 c = omega (arith, turn c)
 
 combined-requires : tie.Need-combined-requires Inv-loop μ-loop
 combined-requires c κs =
-    (((c .before .before .before .before .before .before .before .before .before .pre .0 .1 .0), c .before .before .before .before .before .before .before .before .before .pre .0 .1 .1 .0), λ x h. c .before .before .before .before .before .before .before .before .before .pre .1 (c .before .loop .k) x (c .loop-test .taken) h)
+    let s = start (c .before) in
+    ((s .pre .0 .1 .0, s .pre .0 .1 .1 .0), λ x h. s .pre .1 (c .before .loop .k) x (c .loop-test .taken) h)
 
 product-requires : tie.Need-product-requires Inv-loop μ-loop
-product-requires c κs =
-    omega (arith, (c .before .before .before .before .before .before .before .before .before .before .pre .0 .1 .0))
+product-requires c κs = start (c .before .before) .pre .0 .1 .0
 
 product-requires-2 : tie.Need-product-requires-2 Inv-loop μ-loop
-product-requires-2 c κs =
-    omega (arith, (c .before .before .before .before .before .before .before .before .before .before .before .pre .0 .1 .0))
+product-requires-2 c κs = start (c .before .before .before) .pre .0 .1 .0
 
 mul-add-scaled : tie.Need-mul-add-scaled Inv-loop μ-loop
 mul-add-scaled c =
-    omega (arith, (c .before .before .before .before .loop-test .taken), c .before .before .before .before .before .before .before .before .before .before .before .before .before .pre .0 .1 .1 .1)
+    let now = c .before .before .before .before in
+    omega (arith, now .loop-test .taken, start (now .before) .pre .0 .1 .1 .1)
 
 slice-aggregate-add-scaled : tie.Need-slice-aggregate-add-scaled Inv-loop μ-loop
-slice-aggregate-add-scaled c =
-    search needs
+slice-aggregate-add-scaled c = search needs
 
 add-scaled-requires : tie.Need-add-scaled-requires Inv-loop μ-loop
 add-scaled-requires c κs =
-    omega (arith, simp length-block at (ap length (c .before .before .product2 .ensures)), (c .before .before .before .before .before .loop-test .taken), (c .before .before .before .before .before .before .loop .inv) .so-far .long, c .before .before .before .before .before .before .before .before .before .clear .kept .0, c .before .before .before .before .before .before .before .before .before .before .before .before .before .before .pre .0 .1 .1 .1)
+    let now = c .before .before .before .before .before in
+    let at = now .before in
+    omega (
+      arith,
+      simp length-block at (ap length (c .before .before .product2 .ensures)),
+      now .loop-test .taken,
+      at .loop .inv .so-far .long,
+      at .before .before .before .clear .kept .0,
+      start at .pre .0 .1 .1 .1,
+    )
 
 add-k : tie.Need-add-k Inv-loop μ-loop
 add-k c =
-    search needs
+    let now = c .before .before .before .before .before .before .before .before in
+    omega (arith, now .loop-test .taken, start (now .before) .fits .count)
 
 loop-less : tie.Need-loop-less Inv-loop μ-loop
-loop-less c =
-    search needs
+loop-less c = omega (arith, c .before .before .before .before .before .before .before .before .loop-test .taken)
 
 loop-again : tie.Need-loop-again Inv-loop μ-loop
 loop-again c =
-    adding-next-at (c .before .before .before .before .before .before .before .before .before .loop .inv) (c .before .before .before .before .before .before .before .before .loop-test .taken) (omega arith) (side-row (c .before .before .before .before .before .before .before .before .before .before .before .before .before .before .before .before .before .pre .0 .1 .0) (c .before .before .before .before .before .before .before .before .before .before .before .before .before .before .before .before .before .args .first) (c .before .before .before .before .before .before .before .before .before .before .before .before .before .before .before .before .before .args .last) (coefficient (c .before .before .before .before .before .before .before .before .before .before .before .before .before .before .before .before .before .args .l) (groupOf (c .before .before .before .before .before .before .before .before .before .before .before .before .before .before .before .before .before .args .l) (c .before .before .before .before .before .before .before .before .before .before .before .before .before .before .before .before .before .args .abq .now) (c .before .before .before .before .before .before .before .before .before .before .before .before .before .before .before .before .before .args .group))) (c .before .before .before .before .before .before .before .before .before .before .before .before .before .before .before .before .before .args .table .now) (c .before .before .before .before .before .before .before .before .before .before .before .before .before .before .before .before .before .args .w) (c .before .before .before .before .before .before .before .before .before .before .before .before .before .before .before .before .before .args .row) (c .before .before .before .before .before .before .before .before .before .before .before .before .before .before .before .before .before .args .down) (c .before .before .before .before .before .before .before .before .before .before .before .before .before .before .before .before .before .args .across) (c .before .before .before .before .before .before .before .before .before .loop .k) (c .before .before .before .before .before .before .before .combined .ensures) (c .before .before .before .before .before .before .product .ensures) (c .before .before .before .before .before .product2 .ensures) (c .before .before .add-scaled .ensures))
+    let side = c .before .before .before .before .before in
+    let now = side .before .before .before in
+    let s = start (now .before) in
+    let a = s .args in
+    adding-next-at (now .before .loop .inv) (now .loop-test .taken) (omega arith)
+    (side-row (s .pre .0 .1 .0) (a .first) (a .last) (group s) (a .table .now) (a .w) (a .row) (a .down) (a .across) (now .before .loop .k)
+    (side .before .before .combined .ensures) (side .before .product .ensures) (side .product2 .ensures) (c .before .before .add-scaled .ensures))
 
 same-length : tie.Need-same-length Inv-loop μ-loop
-same-length c =
-    search needs
+same-length c = search needs
 
 returns : tie.Need-returns Inv-loop μ-loop
 returns c =
-    (sides-filled (c .before .before .before .before .before .before .before .before .before .pre .0 .1 .0) (view (c .before .before .before .before .before .before .before .before .before .args .first)) (coefficient (c .before .before .before .before .before .before .before .before .before .args .l) (groupOf (c .before .before .before .before .before .before .before .before .before .args .l) (c .before .before .before .before .before .before .before .before .before .args .abq .now) (c .before .before .before .before .before .before .before .before .before .args .group))) (c .before .before .before .before .before .before .before .before .before .args .table .now) (c .before .before .before .before .before .before .before .before .before .args .w) (c .before .before .before .before .before .before .before .before .before .args .row) (c .before .before .before .before .before .before .before .before .before .args .down) (c .before .before .before .before .before .before .before .before .before .args .across) (view (c .before .before .before .before .before .before .before .before .before .args .last)) (c .before .before .before .before .before .before .before .before .before .args .out .now) (c .before .before .before .before .clear .ensures) (adding-end (c .before .loop .inv) (c .loop-test .left)), omega (arith, (c .before .loop .inv) .so-far .long, c .before .before .before .before .clear .kept .0))
+    let at = c .before in
+    let s = start at in
+    let a = s .args in
+    let cleared = at .before .before .before .clear in (
+      sides-filled (s .pre .0 .1 .0) (view (a .first)) (group s) (a .table .now) (a .w) (a .row) (a .down) (a .across) (view (a .last)) (a .out .now)
+          (cleared .ensures) (adding-end (at .loop .inv) (c .loop-test .left)),
+      omega (arith, at .loop .inv .so-far .long, cleared .kept .0),
+    )
 
 pub fill-sides-spec : {M : Type 1} → statement M
 fill-sides-spec =
@@ -90,7 +119,7 @@ fill-sides-spec =
     (tie.spec
     Inv-loop
     μ-loop
-    clear-requires
+    (λ _ _. tt)
     loop-holds
     mul-combined
     add-combined
