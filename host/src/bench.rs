@@ -1,6 +1,7 @@
 //! Measures the proved library and the independent model on the same buffers.
 
 use crate::answer::Answer;
+use crate::clock::thread_time;
 use crate::engine::Engine;
 use crate::lent::{KeyStreams, SigningStreams, VerdictStreams};
 use crate::prng::Prng;
@@ -9,7 +10,7 @@ use crate::set::Set;
 use crate::streams::{self, Expansion};
 use std::fmt::{self, Write};
 use std::str::FromStr;
-use std::time::{Duration, Instant};
+use std::time::Duration;
 
 #[derive(Clone, Copy, PartialEq, Eq, Debug)]
 pub enum Operation {
@@ -127,9 +128,9 @@ impl Bench {
         assert!(by_library == by_model, "{operation} of {}: the two differ", self.set);
         for _ in 0..runs {
             for (engine, times) in Engine::BOTH.into_iter().zip(&mut times) {
-                let start = Instant::now();
+                let start = thread_time();
                 self.run(operation, engine);
-                times.push(start.elapsed());
+                times.push(thread_time() - start);
             }
         }
         let [library, model] = times.map(median);
@@ -144,14 +145,16 @@ fn median(mut times: Vec<Duration>) -> Duration {
 
 /// What was measured, and the state of the buffers.
 pub fn conditions(runs: usize) -> String {
+    let first =
+        format!("Medians of {runs} runs in one process, library and model by turns, after one");
+    let last = format!("the two calls. Hashing is not measured. Processor: {}.", processor());
     let lines = [
-        &format!(
-            "Medians of {runs} runs in one process, library and model by turns, after one run of"
-        ),
-        "each that does not count and in which both write the same bytes. Buffers: allocated once",
-        "for a set and used by every run, so caches and pages are warm; streams made from fixed",
-        "seeds beforehand; work area zero before and after each run; outputs written over.",
-        &format!("Hashing is not measured. Processor: {}.", processor()),
+        &first[..],
+        "run of each that does not count and in which both write the same bytes. Buffers: allocated",
+        "once for a set and used by every run, so caches and pages are warm; streams made from fixed",
+        "seeds beforehand; work area zero before and after each run; outputs written over. Times are",
+        "processor time of the thread, so that being interrupted on a busy machine counts for neither of",
+        &last,
     ];
     lines.join("\n")
 }

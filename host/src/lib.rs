@@ -8,6 +8,7 @@
 pub mod answer;
 pub mod bench;
 pub mod cli;
+mod clock;
 pub mod engine;
 mod ffi;
 pub mod hash;

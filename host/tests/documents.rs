@@ -1,6 +1,7 @@
 //! The documents: every `$ snova ..` of the READMEs prints what stands below it, and every file
 //! that they name is there.
 
+use snova_host::set::ROUND_2;
 use std::path::{Path, PathBuf};
 use std::process::{Command, Stdio};
 
@@ -89,5 +90,17 @@ fn every_subcommand_stands_in_the_readme() {
     let readme = text("host/README.md");
     for name in ["sizes", "keygen", "sign", "verify", "salt", "streams", "kat", "bench"] {
         assert!(readme.contains(&format!("snova {name}")), "{name}");
+    }
+}
+
+/// The table of times has a line for every set and operation.
+#[test]
+fn the_nine_sets_stand_in_the_table_of_times() {
+    let text = text("docs/PERFORMANCE.md");
+    for set in ROUND_2 {
+        for operation in ["keygen", "sign", "verify"] {
+            let line = format!("\n| {set} | {operation} | ");
+            assert_eq!(text.matches(&line).count(), 1, "{set} {operation}");
+        }
     }
 }
