@@ -1,6 +1,6 @@
 -- One step more of what the code's loops form: a sum of products, a power of S, Algorithm 1's sum, a determinant's first column.
 -- Rests on the definitions and on algebra's sums.
-use mathlib.Core.Path.{_≡_, refl, ap}
+use mathlib.Core.Path.{_≡_, refl, sym, ap, ap₂, _∙_}
 use Prim.Native.Nat.{ℕ, zero, suc, _+_, _-_, _<_}
 use native.Mathlib.Nat.{not-suc-le-zero, mod-eq-of-lt}
 use native.Mathlib.Numerals.{add-one, sub-one}
@@ -9,11 +9,12 @@ use Rattle.ground.specs.Pick.{pick}
 use Rattle.algebra.specs.Sum.{sum, sum-none, sum-more}
 use Rattle.algebra.specs.Powers.{power, polynomial}
 use Rattle.field.specs.Field.{add, mul}
+use Rattle.field.specs.Laws.{zero-add, mul-assoc, mul-one, mul-lt}
 use Rattle.field.specs.FieldRing.{field-ring}
 use Rattle.matrix.specs.Matrix.{Matrix, zeroM, addM, mulM, scaleM}
 use Rattle.matrix.specs.MatrixRing.{matrices}
 use Rattle.matrix.specs.RingElements.{oneM, S, powerS}
-use Rattle.matrix.specs.Determinant.{det, minor}
+use Rattle.matrix.specs.Determinant.{det, minor, skip}
 
 -- inside l the remainders are the indices themselves
 pub S-inside : (l r c : ℕ) → r < l → c < l → S l r c ≡ 8 - r - c
@@ -70,6 +71,17 @@ column-more n M k = sum-more field-ring k _
 pub det-none : {n : ℕ} (M : Matrix) → n ≡ 0 → det n M ≡ 1
 unfolding det
 det-none M e = rw e
+
+pub det-one : {n : ℕ} (M : Matrix) → n ≡ 1 → det n M ≡ mul (M 0 0) 1
+unfolding det sum
+det-one M e = rw e (zero-add (mul (M 0 0) 1))
+
+pub det-two : {n : ℕ} (M : Matrix) → n ≡ 2 → det n M ≡ add (mul (M 0 0) (M 1 1)) (mul (M 1 0) (M 0 1))
+unfolding det minor skip sum
+det-two M e = rw e (ap₂ add (zero-add _ ∙ ap (mul (M 0 0)) (zero-add _) ∙ by-one (M 0 0) (M 1 1)) (ap (mul (M 1 0)) (zero-add _) ∙ by-one (M 1 0) (M 0 1)))
+  where
+    by-one : (a b : ℕ) → mul a (mul b 1) ≡ mul a b
+    by-one a b = sym (mul-assoc a b 1) ∙ mul-one (mul a b) (mul-lt a b)
 
 -- the whole column gives the determinant
 pub column-all : (n : ℕ) (M : Matrix) → 0 < n → column n M n ≡ det n M

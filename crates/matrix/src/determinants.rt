@@ -44,11 +44,41 @@ fn minor_of(n: usize, m: Block, r: usize) -> Block
     out
 }
 
+// The determinant of a matrix of size 0, 1 or 2, written out.
+fn small_determinant(n: usize, m: Block) -> u8
+    requires { ⌜ n ≤ 2 ⌝ }
+    ensures { λ d. ⌜ d ≡ det n (view m) ⌝ }
+{
+    if n == 0 {
+        return 1;
+    }
+    if n == 1 {
+        return mul(entry(m, 0, 0), 1);
+    }
+    let down = mul(entry(m, 0, 0), entry(m, 1, 1));
+    let up = mul(entry(m, 1, 0), entry(m, 0, 1));
+    add(down, up)
+}
+
+// The cofactor of row r's entry of a 3 by 3 matrix, written out: two rows and two columns are left.
+fn small_cofactor(m: Block, r: usize) -> u8
+    ensures { λ d. ⌜ d ≡ det 2 (minor (view m) r) ⌝ }
+{
+    let first = skip(r, 0);
+    let second = skip(r, 1);
+    let down = mul(entry(m, first, 1), entry(m, second, 2));
+    let up = mul(entry(m, second, 1), entry(m, first, 2));
+    add(down, up)
+}
+
 // The cofactor of row r's entry in the first column: the determinant without that row and column.
 fn cofactor(n: usize, m: Block, r: usize) -> u8
     requires { ⌜ (0 < n) × (n ≤ 5) ⌝ }
     ensures { λ d. ⌜ d ≡ det (n - 1) (minor (view m) r) ⌝ }
 {
+    if n == 3 {
+        return small_cofactor(m, r);
+    }
     let rest = minor_of(n, m, r);
     determinant(n - 1, rest)
 }
@@ -58,8 +88,8 @@ pub fn determinant(n: usize, m: Block) -> u8
     requires { ⌜ n ≤ 5 ⌝ }
     ensures { λ d. ⌜ d ≡ det n (view m) ⌝ }
 {
-    if n == 0 {
-        return 1;
+    if n <= 2 {
+        return small_determinant(n, m);
     }
     let mut sum: u8 = 0;
     for r in 0..n {

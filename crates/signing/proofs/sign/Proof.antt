@@ -14,15 +14,20 @@ sign-refusal-requires c κs = search needs
 
 returns : tie.Need-returns
 returns c =
-    let s = c .before .before .before .before .before .before .before .before .before .before in
-    refused-length (s .args .set) (s .args .public .now) (s .args .abq .now) (s .args .private .now) (s .args .vinegar .now) (s .args .target .now) (s .args .salt .now) (s .args .work .now) (s .args .output .now)
-    (c .before .sign-refusal .ensures) (c .if1 .taken)
+    let at-sign-refusal = c .before in
+    let begin = at-sign-refusal .before .before .before .before .before .before .before .before .before in
+    let a = begin .args in
+    refused-length (a .set) (a .public .now) (a .abq .now) (a .private .now) (a .vinegar .now) (a .target .now) (a .salt .now) (a .work .now) (a .output .now)
+    (at-sign-refusal .sign-refusal .ensures) (c .if1 .taken)
 
 all-invertible-requires : tie.Need-all-invertible-requires
 all-invertible-requires c κs =
-    let s = c .before .before .before .before .before .before .before .before .before .before in
-    let f = sign-fits (s .args .set) (length (s .args .public .now)) (length (s .args .abq .now)) (length (s .args .private .now)) (length (s .args .vinegar .now)) (length (s .args .target .now)) (length (s .args .salt .now)) (length (s .args .work .now)) (length (s .args .output .now)) (sym (c .before .sign-refusal .ensures) ∙ c .if1 .left) in
-    (bounds (s .args .set) (f .allowed), f .abq)
+    let at-sign-refusal = c .before in
+    let begin = at-sign-refusal .before .before .before .before .before .before .before .before .before in
+    let a = begin .args in
+    let f = sign-fits (a .set) (length (a .public .now)) (length (a .abq .now)) (length (a .private .now)) (length (a .vinegar .now)) (length (a .target .now))
+    (length (a .salt .now)) (length (a .work .now)) (length (a .output .now)) (sym (at-sign-refusal .sign-refusal .ensures) ∙ c .if1 .left) in
+    (bounds (a .set) (f .allowed), f .abq)
 
 enum-told : tie.Need-enum-told
 enum-told c = search needs
@@ -35,15 +40,25 @@ number-requires c κs = search needs
 
 returns-2 : tie.Need-returns-2
 returns-2 c =
-    let s = c .before .before .before .before .before .before .before .before .before .before .before .before .before .before in
-    refused-invertible (s .args .set) (s .args .public .now) (s .args .abq .now) (s .args .private .now) (s .args .vinegar .now) (s .args .target .now) (s .args .salt .now) (s .args .work .now) (s .args .output .now)
-    (c .before .before .before .before .before .sign-refusal .ensures) (c .before .before .before .before .if1 .left) (c .before .before .before .all-invertible .ensures) (c .before .enum-told2 .given .1) (c .number .ensures)
+    let at-enum-told2 = c .before in
+    let at-all-invertible = at-enum-told2 .before .before in
+    let at-if1 = at-all-invertible .before in
+    let at-sign-refusal = at-if1 .before in
+    let begin = at-sign-refusal .before .before .before .before .before .before .before .before .before in
+    let a = begin .args in
+    refused-invertible (a .set) (a .public .now) (a .abq .now) (a .private .now) (a .vinegar .now) (a .target .now) (a .salt .now) (a .work .now) (a .output .now)
+    (at-sign-refusal .sign-refusal .ensures) (at-if1 .if1 .left) (at-all-invertible .all-invertible .ensures) (at-enum-told2 .enum-told2 .given .1) (c .number .ensures)
 
 sign-lent-requires : tie.Need-sign-lent-requires
 sign-lent-requires c κs =
-    let s = c .before .before .before .before .before .before .before .before .before .before .before .before .before .before .before in
-    nothing-refused (s .args .set) (s .args .public .now) (s .args .abq .now) (s .args .private .now) (s .args .vinegar .now) (s .args .target .now) (s .args .salt .now) (s .args .work .now) (s .args .output .now)
-    (c .before .before .before .before .before .before .sign-refusal .ensures) (c .before .before .before .before .before .if1 .left) (c .before .before .before .before .all-invertible .ensures) (c .before .before .enum-told .given .1)
+    let at-enum-told = c .before .before in
+    let at-all-invertible = at-enum-told .before .before in
+    let at-if1 = at-all-invertible .before in
+    let at-sign-refusal = at-if1 .before in
+    let begin = at-sign-refusal .before .before .before .before .before .before .before .before .before in
+    let a = begin .args in
+    nothing-refused (a .set) (a .public .now) (a .abq .now) (a .private .now) (a .vinegar .now) (a .target .now) (a .salt .now) (a .work .now) (a .output .now)
+    (at-sign-refusal .sign-refusal .ensures) (at-if1 .if1 .left) (at-all-invertible .all-invertible .ensures) (at-enum-told .enum-told .given .1)
 
 same-length : tie.Need-same-length
 same-length c = search needs

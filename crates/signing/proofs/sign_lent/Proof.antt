@@ -17,16 +17,22 @@ fitting : (s : tie.Start)
     → SignFits (s .args .set) (length (s .args .public .now)) (length (s .args .abq .now)) (length (s .args .private .now)) (length (s .args .vinegar .now))
     (length (s .args .target .now)) (length (s .args .salt .now)) (length (s .args .work .now)) (length (s .args .output .now))
 fitting s =
-    fits (s .args .set) (s .args .public .now) (s .args .abq .now) (s .args .private .now) (s .args .vinegar .now) (s .args .target .now) (s .args .salt .now) (s .args .work .now) (s .args .output .now) (s .pre)
+    fits (s .args .set) (s .args .public .now) (s .args .abq .now) (s .args .private .now) (s .args .vinegar .now) (s .args .target .now) (s .args .salt .now)
+    (s .args .work .now) (s .args .output .now) (s .pre)
 
 within : (s : tie.Start) → Bounds (s .args .set)
 within s = bounds (s .args .set) (fitting s .allowed)
 
 solve-requires : tie.Need-solve-requires
 solve-requires c κs =
-    let s = c .before .before .before .before .before .before .before .before .before in
-    let f = fitting s in (
-      (within s, invertible (s .args .set) (s .args .public .now) (s .args .abq .now) (s .args .private .now) (s .args .vinegar .now) (s .args .target .now) (s .args .salt .now) (s .args .work .now) (s .args .output .now) (s .pre)),
+    let begin = c .before .before .before .before .before .before .before .before .before in
+    let a = begin .args in
+    let f = fitting begin in (
+      (
+        within begin,
+        invertible (a .set) (a .public .now) (a .abq .now) (a .private .now) (a .vinegar .now) (a .target .now) (a .salt .now) (a .work .now) (a .output .now)
+            (begin .pre),
+      ),
       ((f .public, (f .abq, f .private)), (f .vinegar, (f .target, f .work))),
     )
 
@@ -65,20 +71,29 @@ same-length-2 c = search needs
 
 returns : tie.Need-returns
 returns c =
-    let s = c .before .before .before .before .before .before .before .before .before .before .before .before .before .before .before .before .before .before .before .before .before .before .before in
-    let solved = c .before .before .before .before .before .before .before .before .before .before .before .before .before .solve in
-    signs-done (s .args .set) (s .args .public .now) (s .args .abq .now) (s .args .private .now) (s .args .vinegar .now) (s .args .target .now) (s .args .salt .now) (s .args .work .now) (s .args .output .now) (s .pre)
-    (some-l (within s)) (solved .ensures .solved (c .before .before .before .before .before .before .before .before .before .enum-told .given .1)) (c .before .before .before .before .before .before .emit .ensures) (c .before .before .clear .ensures ∙ ap zeros (solved .kept .0))
+    let at-clear = c .before .before in
+    let at-emit = at-clear .before .before .before .before in
+    let at-enum-told = at-emit .before .before .before in
+    let at-solve = at-enum-told .before .before .before .before in
+    let begin = at-solve .before .before .before .before .before .before .before .before .before .before in
+    let a = begin .args in
+    let solved = at-solve .solve in
+    signs-done (a .set) (a .public .now) (a .abq .now) (a .private .now) (a .vinegar .now) (a .target .now) (a .salt .now) (a .work .now) (a .output .now) (begin .pre)
+    (some-l (within begin)) (solved .ensures .solved (at-enum-told .enum-told .given .1)) (at-emit .emit .ensures) (at-clear .clear .ensures ∙ ap zeros (solved .kept .0))
 
 same-length-3 : tie.Need-same-length-3
 same-length-3 c = search needs
 
 returns-2 : tie.Need-returns-2
 returns-2 c =
-    let s = c .before .before .before .before .before .before .before .before .before .before .before .before .before .before .before .before .before .before in
-    let solved = c .before .before .before .before .before .before .before .before .solve in
-    signs-redo (s .args .set) (s .args .public .now) (s .args .abq .now) (s .args .private .now) (s .args .vinegar .now) (s .args .target .now) (s .args .salt .now) (s .args .work .now) (s .args .output .now) (s .pre)
-    (solved .ensures .singular (c .before .before .before .before .enum-told2 .given .1)) (c .before .before .clear2 .ensures ∙ ap zeros (solved .kept .0))
+    let at-clear2 = c .before .before in
+    let at-enum-told2 = at-clear2 .before .before in
+    let at-solve = at-enum-told2 .before .before .before .before in
+    let begin = at-solve .before .before .before .before .before .before .before .before .before .before in
+    let a = begin .args in
+    let solved = at-solve .solve in
+    signs-redo (a .set) (a .public .now) (a .abq .now) (a .private .now) (a .vinegar .now) (a .target .now) (a .salt .now) (a .work .now) (a .output .now) (begin .pre)
+    (solved .ensures .singular (at-enum-told2 .enum-told2 .given .1)) (at-clear2 .clear2 .ensures ∙ ap zeros (solved .kept .0))
 
 pub sign-lent-spec : {M : Type 1} → statement M
 sign-lent-spec =

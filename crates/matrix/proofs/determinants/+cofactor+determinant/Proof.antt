@@ -1,6 +1,6 @@
 -- `matrix::determinant` and `matrix::cofactor` meet their contracts. The measures are 2n + 1 and 2n: a cofactor of size n is a determinant of size n - 1.
 -- The invariant: the sum so far is that of the column's first r terms (`column`).
-use mathlib.Core.Path.{_≡_, sym, ap₂, _∙_}
+use mathlib.Core.Path.{_≡_, sym, ap, ap₂, _∙_}
 use Prim.Native.Nat.{_+_, _-_, _≤_, ℕ, _<_}
 use native.Mathlib.Omega.{arith}
 use borrow.Author.Needs.{needs}
@@ -9,9 +9,9 @@ use borrow.Fn.PlainCycle.{Measures, is, falls, and}
 use Rattle.field.specs.Field.{add, mul}
 use Rattle.field.proofs.add.Reads as add-reads
 use Rattle.field.proofs.mul.Reads as mul-reads
-use Rattle.matrix.specs.Determinant.{det-same}
+use Rattle.matrix.specs.Determinant.{det, minor, det-same}
 use Rattle.matrix.specs.Block.{view, holds}
-use Rattle.matrix.specs.Steps.{column, column-none, column-more, column-all, det-none}
+use Rattle.matrix.specs.Steps.{column, column-none, column-more, column-all}
 use Rattle.matrix.proofs.determinants.cofactor.Reads as cofactor
 use Rattle.matrix.proofs.determinants.cofactor.Kinds as cofactor-kinds
 use Rattle.matrix.proofs.determinants.+cofactor+determinant.Lts-cofactor as cofactor-lts
@@ -20,6 +20,8 @@ use Rattle.matrix.proofs.determinants.determinant.Kinds as determinant-
 use Rattle.matrix.proofs.determinants.+cofactor+determinant.Lts-determinant as determinant-lts
 use Rattle.matrix.proofs.blocks.entry.Reads as entry-reads
 use Rattle.matrix.proofs.determinants.minor_of.Reads as minor-of-reads
+use Rattle.matrix.proofs.determinants.small_cofactor.Reads as small-cofactor-reads
+use Rattle.matrix.proofs.determinants.small_determinant.Reads as small-determinant-reads
 use Rattle.matrix.proofs.determinants.+cofactor+determinant.{statement}
 use Rattle.matrix.proofs.determinants.+cofactor+determinant.Tie.{close}
 
@@ -44,7 +46,31 @@ abbrev determinant-below : ℕ → In 0 determinant-kinds.ps
 determinant-below t =
     and 0 determinant-kinds.ps (falls 0 determinant-kinds.ps _<_ μ-determinant t) determinant.Pre
 
+cofactor-small-cofactor-requires : (t : ℕ) → cofactor-lts.Need-small-cofactor-requires (
+  small-cofactor-reads.Asked,
+  small-cofactor-reads.Learnt,
+  minor-of-reads.Asked,
+  minor-of-reads.Learnt,
+  determinant-below t,
+  determinant.Post,
+) (cofactor-at t) cofactor.Post
+cofactor-small-cofactor-requires t c κs = search needs
+
+cofactor-returns : (t : ℕ) → cofactor-lts.Need-returns (
+  small-cofactor-reads.Asked,
+  small-cofactor-reads.Learnt,
+  minor-of-reads.Asked,
+  minor-of-reads.Learnt,
+  determinant-below t,
+  determinant.Post,
+) (cofactor-at t) cofactor.Post
+cofactor-returns t c =
+    let three : c .before .before .args .n ≡ 3 = c .before .if1 .taken in
+    c .small-cofactor .ensures ∙ ap (λ k. det (k - 1) (minor (view (c .before .before .args .m)) (c .before .before .args .r))) (sym three)
+
 cofactor-minor-of-requires : (t : ℕ) → cofactor-lts.Need-minor-of-requires (
+  small-cofactor-reads.Asked,
+  small-cofactor-reads.Learnt,
   minor-of-reads.Asked,
   minor-of-reads.Learnt,
   determinant-below t,
@@ -53,6 +79,8 @@ cofactor-minor-of-requires : (t : ℕ) → cofactor-lts.Need-minor-of-requires (
 cofactor-minor-of-requires t c κs = search needs
 
 cofactor-sub-determinant : (t : ℕ) → cofactor-lts.Need-sub-determinant (
+  small-cofactor-reads.Asked,
+  small-cofactor-reads.Learnt,
   minor-of-reads.Asked,
   minor-of-reads.Learnt,
   determinant-below t,
@@ -61,6 +89,8 @@ cofactor-sub-determinant : (t : ℕ) → cofactor-lts.Need-sub-determinant (
 cofactor-sub-determinant t c = search needs
 
 cofactor-determinant-requires : (t : ℕ) → cofactor-lts.Need-determinant-requires (
+  small-cofactor-reads.Asked,
+  small-cofactor-reads.Learnt,
   minor-of-reads.Asked,
   minor-of-reads.Learnt,
   determinant-below t,
@@ -68,13 +98,15 @@ cofactor-determinant-requires : (t : ℕ) → cofactor-lts.Need-determinant-requ
 ) (cofactor-at t) cofactor.Post
 cofactor-determinant-requires t c κs = search needs
 
-cofactor-returns : (t : ℕ) → cofactor-lts.Need-returns (
+cofactor-returns-2 : (t : ℕ) → cofactor-lts.Need-returns-2 (
+  small-cofactor-reads.Asked,
+  small-cofactor-reads.Learnt,
   minor-of-reads.Asked,
   minor-of-reads.Learnt,
   determinant-below t,
   determinant.Post,
 ) (cofactor-at t) cofactor.Post
-cofactor-returns t c = c .determinant .ensures ∙ det-same _ (holds (omega arith) (c .before .minor-of .ensures))
+cofactor-returns-2 t c = c .determinant .ensures ∙ det-same _ (holds (omega arith) (c .before .minor-of .ensures))
 
 abbrev determinant-Inv-loop : determinant-lts.InvT-loop
 determinant-Inv-loop n m sum₀ r₀ sum r = (r ≤ n) × (sum ≡ column n (view m) r)
@@ -82,7 +114,9 @@ determinant-Inv-loop n m sum₀ r₀ sum r = (r ≤ n) × (sum ≡ column n (vie
 abbrev determinant-μ-loop : determinant-lts.MeasureT-loop
 determinant-μ-loop n m sum₀ r₀ sum r = n - r
 
-determinant-returns : (t : ℕ) → determinant-lts.Need-returns (
+determinant-small-determinant-requires : (t : ℕ) → determinant-lts.Need-small-determinant-requires (
+  small-determinant-reads.Asked,
+  small-determinant-reads.Learnt,
   entry-reads.Asked,
   entry-reads.Learnt,
   cofactor-below t,
@@ -92,9 +126,25 @@ determinant-returns : (t : ℕ) → determinant-lts.Need-returns (
   add-reads.Asked,
   add-reads.Learnt,
 ) (determinant-at t) determinant.Post determinant-Inv-loop determinant-μ-loop
-determinant-returns t c = sym (det-none _ (c .if1 .taken))
+determinant-small-determinant-requires t c κs = search needs
+
+determinant-returns : (t : ℕ) → determinant-lts.Need-returns (
+  small-determinant-reads.Asked,
+  small-determinant-reads.Learnt,
+  entry-reads.Asked,
+  entry-reads.Learnt,
+  cofactor-below t,
+  cofactor.Post,
+  mul-reads.Asked,
+  mul-reads.Learnt,
+  add-reads.Asked,
+  add-reads.Learnt,
+) (determinant-at t) determinant.Post determinant-Inv-loop determinant-μ-loop
+determinant-returns t c = c .small-determinant .ensures
 
 determinant-loop-holds : (t : ℕ) → determinant-lts.Need-loop-holds (
+  small-determinant-reads.Asked,
+  small-determinant-reads.Learnt,
   entry-reads.Asked,
   entry-reads.Learnt,
   cofactor-below t,
@@ -107,6 +157,8 @@ determinant-loop-holds : (t : ℕ) → determinant-lts.Need-loop-holds (
 determinant-loop-holds t c = (omega arith, sym (column-none _ _))
 
 determinant-entry-requires : (t : ℕ) → determinant-lts.Need-entry-requires (
+  small-determinant-reads.Asked,
+  small-determinant-reads.Learnt,
   entry-reads.Asked,
   entry-reads.Learnt,
   cofactor-below t,
@@ -119,6 +171,8 @@ determinant-entry-requires : (t : ℕ) → determinant-lts.Need-entry-requires (
 determinant-entry-requires t c κs = search needs
 
 determinant-cofactor-requires : (t : ℕ) → determinant-lts.Need-cofactor-requires (
+  small-determinant-reads.Asked,
+  small-determinant-reads.Learnt,
   entry-reads.Asked,
   entry-reads.Learnt,
   cofactor-below t,
@@ -131,6 +185,8 @@ determinant-cofactor-requires : (t : ℕ) → determinant-lts.Need-cofactor-requ
 determinant-cofactor-requires t c κs = search needs
 
 determinant-mul-requires : (t : ℕ) → determinant-lts.Need-mul-requires (
+  small-determinant-reads.Asked,
+  small-determinant-reads.Learnt,
   entry-reads.Asked,
   entry-reads.Learnt,
   cofactor-below t,
@@ -143,6 +199,8 @@ determinant-mul-requires : (t : ℕ) → determinant-lts.Need-mul-requires (
 determinant-mul-requires t c κs = search needs
 
 determinant-add-requires : (t : ℕ) → determinant-lts.Need-add-requires (
+  small-determinant-reads.Asked,
+  small-determinant-reads.Learnt,
   entry-reads.Asked,
   entry-reads.Learnt,
   cofactor-below t,
@@ -155,6 +213,8 @@ determinant-add-requires : (t : ℕ) → determinant-lts.Need-add-requires (
 determinant-add-requires t c κs = search needs
 
 determinant-add-r : (t : ℕ) → determinant-lts.Need-add-r (
+  small-determinant-reads.Asked,
+  small-determinant-reads.Learnt,
   entry-reads.Asked,
   entry-reads.Learnt,
   cofactor-below t,
@@ -167,6 +227,8 @@ determinant-add-r : (t : ℕ) → determinant-lts.Need-add-r (
 determinant-add-r t c = search needs
 
 determinant-loop-less : (t : ℕ) → determinant-lts.Need-loop-less (
+  small-determinant-reads.Asked,
+  small-determinant-reads.Learnt,
   entry-reads.Asked,
   entry-reads.Learnt,
   cofactor-below t,
@@ -179,6 +241,8 @@ determinant-loop-less : (t : ℕ) → determinant-lts.Need-loop-less (
 determinant-loop-less t c = search needs
 
 determinant-loop-again : (t : ℕ) → determinant-lts.Need-loop-again (
+  small-determinant-reads.Asked,
+  small-determinant-reads.Learnt,
   entry-reads.Asked,
   entry-reads.Learnt,
   cofactor-below t,
@@ -194,6 +258,8 @@ determinant-loop-again t c =
     (omega arith, c .add .ensures ∙ ap₂ add (at .loop .inv .1) term ∙ sym (column-more _ _ (at .loop .r)))
 
 determinant-returns-2 : (t : ℕ) → determinant-lts.Need-returns-2 (
+  small-determinant-reads.Asked,
+  small-determinant-reads.Learnt,
   entry-reads.Asked,
   entry-reads.Learnt,
   cofactor-below t,
@@ -210,6 +276,8 @@ determinant-returns-2 t c =
 
 pub +cofactor+determinant-spec : {M : Type 1} → statement M
 +cofactor+determinant-spec = close μ-cofactor μ-determinant (λ t. cofactor-lts.spec (
+  small-cofactor-reads.Asked,
+  small-cofactor-reads.Learnt,
   minor-of-reads.Asked,
   minor-of-reads.Learnt,
   determinant-below t,
@@ -217,11 +285,15 @@ pub +cofactor+determinant-spec : {M : Type 1} → statement M
 )
     (cofactor-at t)
     cofactor.Post
+    (cofactor-small-cofactor-requires t)
+    (cofactor-returns t)
     (cofactor-minor-of-requires t)
     (cofactor-sub-determinant t)
     (cofactor-determinant-requires t)
-    (cofactor-returns t))
+    (cofactor-returns-2 t))
     λ t. determinant-lts.spec (
+      small-determinant-reads.Asked,
+      small-determinant-reads.Learnt,
       entry-reads.Asked,
       entry-reads.Learnt,
       cofactor-below t,
@@ -235,6 +307,7 @@ pub +cofactor+determinant-spec : {M : Type 1} → statement M
     determinant.Post
     determinant-Inv-loop
     determinant-μ-loop
+    (determinant-small-determinant-requires t)
     (determinant-returns t)
     (determinant-loop-holds t)
     (determinant-entry-requires t)

@@ -51,9 +51,20 @@ slice-aggregate-fill-left-3 c = search needs
 
 fill-left-requires : tie.Need-fill-left-requires
 fill-left-requires c κs =
-    let s = c .before .before .before .before .before .before .before .before .before .before .before .before .before .before .before .before .before .before .before .before in
-    let b = s .pre .0 .0 in
-    ((b, left-room b), (s .pre .1 .0 .0, (kept-room (vinegar-room b) (c .before .before .before .before .load-vinegar .kept .0), kept-room (private-room b) (c .before .before .before .before .before .before .before .before .private-table .kept .0))))
+    let at-load-vinegar = c .before .before .before .before in
+    let at-private-table = at-load-vinegar .before .before .before .before in
+    let begin = at-private-table .before .before .before .before .before .before .before .before .before .before .before .before in
+    let b = begin .pre .0 .0 in (
+      (b, left-room b),
+      (
+        begin .pre .1 .0 .0,
+        (
+          kept-room (vinegar-room b) (at-load-vinegar .load-vinegar .kept .0),
+          kept-room (private-room b)
+              (at-private-table .private-table .kept .0),
+        ),
+      ),
+    )
 
 slice-aggregate-fill-right : tie.Need-slice-aggregate-fill-right
 slice-aggregate-fill-right c = search needs
@@ -69,11 +80,13 @@ slice-aggregate-fill-right-4 c = search needs
 
 fill-right-requires : tie.Need-fill-right-requires
 fill-right-requires c κs =
-    let s = c .before .before .before .before .before .before .before .before .before .before .before .before .before .before .before .before .before .before .before .before .before .before .before .before .before .before in
-    let b = s .pre .0 .0 in
-    let x = kept-room (vinegar-room b) (c .before .before .before .before .before .before .before .before .before .before .load-vinegar .kept .0) in
-    let t = kept-room (private-room b) (c .before .before .before .before .before .before .before .before .before .before .before .before .before .before .private-table .kept .0) in
-    ((b, (right-room b, sums-room b)), (s .pre .1 .0 .0, (x, t)))
+    let at-load-vinegar = c .before .before .before .before .before .before .before .before .before .before in
+    let at-private-table = at-load-vinegar .before .before .before .before in
+    let begin = at-private-table .before .before .before .before .before .before .before .before .before .before .before .before in
+    let b = begin .pre .0 .0 in
+    let x = kept-room (vinegar-room b) (at-load-vinegar .load-vinegar .kept .0) in
+    let t = kept-room (private-room b) (at-private-table .private-table .kept .0) in
+    ((b, (right-room b, sums-room b)), (begin .pre .1 .0 .0, (x, t)))
 
 slice-aggregate-build : tie.Need-slice-aggregate-build
 slice-aggregate-build c = search needs
@@ -89,26 +102,36 @@ slice-aggregate-build-4 c = search needs
 
 build-requires : tie.Need-build-requires
 build-requires c κs =
-    let s = c .before .before .before .before .before .before .before .before .before .before .before .before .before .before .before .before .before .before .before .before .before .before .before .before .before .before .before .before .before .before .before .before .before .before in
-    let b = s .pre .0 .0 in
-    let left = kept-room (left-room b) (c .before .before .before .before .before .before .before .before .before .before .before .before .before .fill-left .kept .0) in
-    let right = kept-room (right-room b) (c .before .before .before .before .before .before .before .fill-right .kept .0) in
-    let sp = kept-room (powers-room b) (c .before .before .before .before .before .before .before .before .before .before .before .before .before .before .before .before .before .before .before .before .before .before .before .before .before .before .powers-of-s .kept .0) in
-    let sums = kept-room (sums-room b) (c .before .before .before .before .before .before .before .fill-right .kept .1 .0) in
-    ((b, system-room (s .args .set) (s .pre .1 .1 .1 .1)), ((s .pre .1 .0 .1 .0, (s .pre .0 .1, s .pre .1 .1 .1 .0)), (left, (right, (sp, sums)))))
+    let at-fill-right = c .before .before .before .before .before .before .before in
+    let at-fill-left = at-fill-right .before .before .before .before .before .before in
+    let at-powers-of-s = at-fill-left .before .before .before .before .before .before .before .before .before .before .before .before .before in
+    let begin = at-powers-of-s .before .before .before .before .before .before .before .before in
+    let b = begin .pre .0 .0 in
+    let left = kept-room (left-room b) (at-fill-left .fill-left .kept .0) in
+    let right = kept-room (right-room b) (at-fill-right .fill-right .kept .0) in
+    let sp = kept-room (powers-room b) (at-powers-of-s .powers-of-s .kept .0) in
+    let sums = kept-room (sums-room b) (at-fill-right .fill-right .kept .1 .0) in
+    ((b, system-room (begin .args .set) (begin .pre .1 .1 .1 .1)), ((begin .pre .1 .0 .1 .0, (begin .pre .0 .1, begin .pre .1 .1 .1 .0)), (left, (right, (sp, sums)))))
 
 same-length : tie.Need-same-length
 same-length c = search needs
 
 returns : tie.Need-returns
 returns c =
-    let s = c .before .before .before .before .before .before .before .before .before .before .before .before .before .before .before .before .before .before .before .before .before .before .before .before .before .before .before .before .before .before .before .before .before .before .before .before .before in
-    let a = s .args in
+    let at-build = c .before .before in
+    let at-fill-right = at-build .before .before .before .before .before .before .before .before in
+    let at-fill-left = at-fill-right .before .before .before .before .before .before in
+    let at-load-vinegar = at-fill-left .before .before .before .before .before in
+    let at-private-table = at-load-vinegar .before .before .before .before in
+    let at-powers-of-s = at-private-table .before .before .before .before in
+    let begin = at-powers-of-s .before .before .before .before .before .before .before .before in
+    let a = begin .args in
     built-from
-    (system-holds (a .set) (s .pre .0 .0) (a .public .now) (a .abq .now) (a .private .now) (vinegarOf (a .set) (a .vinegar .now))
-    (c .before .before .before .before .before .before .before .before .before .before .before .before .before .before .before .before .before .before .before .before .before .load-vinegar .last .0) (c .before .before .before .before .before .before .before .before .before .before .before .before .before .before .before .before .before .before .before .before .before .before .before .before .before .private-table .last .0) (c .before .before .before .before .before .before .before .before .before .before .before .before .before .before .before .before .fill-left .last .0) (c .before .before .before .before .before .before .before .before .before .before .fill-right .last .0) (c .before .before .before .before .before .before .before .before .before .before .fill-right .last .1 .0) (c .before .before .before .before .before .before .before .before .before .before .before .before .before .before .before .before .before .before .before .before .before .before .before .before .before .before .before .before .before .powers-of-s .last .0)
-    (c .before .before .before .before .before .before .before .before .before .before .before .before .before .before .before .before .before .before .before .before .before .load-vinegar .ensures) (c .before .before .before .before .before .before .before .before .before .before .before .before .before .before .before .before .before .before .before .before .before .before .before .before .before .private-table .ensures .holds) (c .before .before .before .before .before .before .before .before .before .before .before .before .before .before .before .before .before .before .before .before .before .before .before .before .before .before .before .before .before .powers-of-s .ensures .holds)
-    (c .before .before .before .before .before .before .before .before .before .before .before .before .before .before .before .before .fill-left .ensures) (c .before .before .before .before .before .before .before .before .before .before .fill-right .ensures .0) (c .before .before .before .before .before .before .before .before .before .before .fill-right .ensures .1) (c .before .before .build .ensures))
+    (system-holds (a .set) (begin .pre .0 .0) (a .public .now) (a .abq .now) (a .private .now) (vinegarOf (a .set) (a .vinegar .now))
+    (at-load-vinegar .load-vinegar .last .0) (at-private-table .private-table .last .0) (at-fill-left .fill-left .last .0) (at-fill-right .fill-right .last .0)
+    (at-fill-right .fill-right .last .1 .0) (at-powers-of-s .powers-of-s .last .0)
+    (at-load-vinegar .load-vinegar .ensures) (at-private-table .private-table .ensures .holds) (at-powers-of-s .powers-of-s .ensures .holds)
+    (at-fill-left .fill-left .ensures) (at-fill-right .fill-right .ensures .0) (at-fill-right .fill-right .ensures .1) (at-build .build .ensures))
 
 pub build-system-spec : {M : Type 1} → statement M
 build-system-spec =

@@ -34,8 +34,12 @@ same-length c = search needs
 
 returns : tie.Need-returns
 returns c =
-    let s = c .before .before .before .before .before .before .before .before .before .before .before .before in
-    vinegar-powers (s .args .set) (c .before .before .before .before .before .before .before .before .vinegar-count .ensures ∙ s .pre .0 .0 .counts .vinegar) (c .before .before .before .before .before .before .unpack-all .ensures) (c .before .before .power-table .ensures)
+    let at-power-table = c .before .before in
+    let at-unpack-all = at-power-table .before .before .before .before in
+    let at-vinegar-count = at-unpack-all .before .before in
+    let begin = at-vinegar-count .before .before .before .before in
+    vinegar-powers (begin .args .set) (at-vinegar-count .vinegar-count .ensures ∙ begin .pre .0 .0 .counts .vinegar) (at-unpack-all .unpack-all .ensures)
+    (at-power-table .power-table .ensures)
 
 pub load-vinegar-spec : {M : Type 1} → statement M
 load-vinegar-spec =

@@ -15,15 +15,22 @@ unknowns-requires c κs = search needs
 
 eliminate-requires : tie.Need-eliminate-requires
 eliminate-requires c κs =
-    let s = c .before .before .before .before .before .before .before .before .before .before .before .before in
-    built-area (s .pre .0 .0) (c .before .unknowns .ensures) (system-within (s .args .set) (c .before .before .before .before .build-system .kept .0) (s .pre .1 .1 .1 .1)) (c .before .before .before .before .build-system .ensures)
+    let at-unknowns = c .before in
+    let at-build-system = at-unknowns .before .before .before in
+    let begin = at-build-system .before .before .before .before .before .before .before .before in
+    built-area (begin .pre .0 .0) (at-unknowns .unknowns .ensures) (system-within (begin .args .set) (at-build-system .build-system .kept .0) (begin .pre .1 .1 .1 .1))
+    (at-build-system .build-system .ensures)
 
 same-length : tie.Need-same-length
 same-length c = search needs
 
 returns : tie.Need-returns
 returns c =
-    solving-from (some-l (c .before .before .before .before .before .before .before .before .before .before .before .before .before .before .before .pre .0 .0)) (c .before .before .before .before .unknowns .ensures) (c .before .before .before .before .before .before .before .build-system .ensures) (c .before .before .eliminate .ensures)
+    let at-eliminate = c .before .before in
+    let at-unknowns = at-eliminate .before .before in
+    let at-build-system = at-unknowns .before .before .before in
+    let begin = at-build-system .before .before .before .before .before .before .before .before in
+    solving-from (some-l (begin .pre .0 .0)) (at-unknowns .unknowns .ensures) (at-build-system .build-system .ensures) (at-eliminate .eliminate .ensures)
 
 pub solve-spec : {M : Type 1} → statement M
 solve-spec =

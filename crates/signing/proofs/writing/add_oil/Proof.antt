@@ -38,7 +38,17 @@ mul-add-columns-2 : tie.Need-mul-add-columns-2 Inv-loop μ-loop
 mul-add-columns-2 c = omega (arith, turn (c .before), start (c .before .before) .pre .1, c .before .before .loop .inv .so-far .long)
 
 add-columns-requires : tie.Need-add-columns-requires Inv-loop μ-loop
-add-columns-requires c κs = ((omega (arith, turn (c .before), start (c .before .before) .pre .1, c .before .before .loop .inv .so-far .long), omega (arith, turn (c .before), start (c .before .before) .pre .1, c .before .before .loop .inv .so-far .long)), λ x h. omega (arith, turn (c .before), start (c .before .before) .pre .1, c .before .before .loop .inv .so-far .long))
+add-columns-requires c κs =
+    let at-1 = c .before in
+    let at-loop = at-1 .before in (
+      (
+        omega (arith, turn (at-1), start (at-loop) .pre .1, at-loop .loop .inv .so-far .long),
+        omega
+            (arith, turn (at-1), start (at-loop) .pre .1, at-loop .loop .inv .so-far .long),
+      ),
+      λ x h. omega
+          (arith, turn (at-1), start (at-loop) .pre .1, at-loop .loop .inv .so-far .long),
+    )
 
 add-y : tie.Need-add-y Inv-loop μ-loop
 add-y c = search needs

@@ -30,22 +30,41 @@ slice-aggregate-solution-list-2 c = search needs
 
 solution-list-requires : tie.Need-solution-list-requires
 solution-list-requires c κs =
-    let s = c .before .before .before .before .before .before .before .before .before .before .before in
-    let b = s .pre .0 in
-    (b, (s .pre .1 .0, ((omega (arith, b .sizes .signature), omega (arith, b .sizes .unknowns, c .before .before .before .read-solution .kept .0)), λ e h. rw (solution-read (s .args .work .now) (c .before .before .before .before .before .unknowns .ensures) (c .before .before .before .read-solution .ensures) e h) (s .pre .1 .1 .1 e h))))
+    let at-read-solution = c .before .before .before in
+    let at-unknowns = at-read-solution .before .before in
+    let begin = at-unknowns .before .before .before .before .before .before in
+    let b = begin .pre .0 in (
+      b,
+      (
+        begin .pre .1 .0,
+        (
+          (omega (arith, b .sizes .signature), omega (arith, b .sizes .unknowns, at-read-solution .read-solution .kept .0)),
+          λ e h. rw
+              (solution-read (begin .args .work .now) (at-unknowns .unknowns .ensures) (at-read-solution .read-solution .ensures) e h) (begin .pre .1 .1 .1 e h),
+        ),
+      ),
+    )
 
 slice-aggregate-write-output : tie.Need-slice-aggregate-write-output
 slice-aggregate-write-output c = search needs
 
 write-output-requires : tie.Need-write-output-requires
 write-output-requires c κs =
-    let s = c .before .before .before .before .before .before .before .before .before .before .before .before .before .before .before in
-    let b = s .pre .0 in
-    let list = c .before .before .before .solution-list .ensures in (
+    let at-solution-list = c .before .before .before in
+    let at-read-solution = at-solution-list .before .before .before .before in
+    let at-unknowns = at-read-solution .before .before in
+    let begin = at-unknowns .before .before .before .before .before .before in
+    let b = begin .pre .0 in
+    let list = at-solution-list .solution-list .ensures in (
       b,
       (
-        (s .pre .1 .1 .0 .0, omega (arith, b .sizes .signature, c .before .before .before .solution-list .kept .0)),
-        (list-lt list (oil-read (c .before .before .before .before .before .before .before .read-solution .last .0) (some-l b) (λ e h. rw (solution-read (s .args .work .now) (c .before .before .before .before .before .before .before .before .before .unknowns .ensures) (c .before .before .before .before .before .before .before .read-solution .ensures) e h) (s .pre .1 .1 .1 e h))), list .beyond),
+        (begin .pre .1 .1 .0 .0, omega (arith, b .sizes .signature, at-solution-list .solution-list .kept .0)),
+        (
+          list-lt list (oil-read (at-read-solution .read-solution .last .0) (some-l b)
+              (λ e h. rw (solution-read (begin .args .work .now) (at-unknowns .unknowns .ensures) (at-read-solution .read-solution .ensures) e h)
+              (begin .pre .1 .1 .1 e h))),
+          list .beyond,
+        ),
       ),
     )
 
@@ -54,7 +73,13 @@ same-length c = search needs
 
 returns : tie.Need-returns
 returns c =
-    signature-from (c .before .before .before .before .before .before .before .before .before .before .before .before .before .before .before .before .before .before .args .salt .now) (c .before .before .before .before .before .before .before .before .before .before .read-solution .last .0) (c .before .before .before .before .before .before .solution-list .ensures) (solution-read (c .before .before .before .before .before .before .before .before .before .before .before .before .before .before .before .before .before .before .args .work .now) (c .before .before .before .before .before .before .before .before .before .before .before .before .unknowns .ensures) (c .before .before .before .before .before .before .before .before .before .before .read-solution .ensures)) (c .before .before .write-output .ensures)
+    let at-write-output = c .before .before in
+    let at-solution-list = at-write-output .before .before .before .before in
+    let at-read-solution = at-solution-list .before .before .before .before in
+    let at-unknowns = at-read-solution .before .before in
+    let begin = at-unknowns .before .before .before .before .before .before in
+    signature-from (begin .args .salt .now) (at-read-solution .read-solution .last .0) (at-solution-list .solution-list .ensures)
+    (solution-read (begin .args .work .now) (at-unknowns .unknowns .ensures) (at-read-solution .read-solution .ensures)) (at-write-output .write-output .ensures)
 
 pub emit-spec : {M : Type 1} → statement M
 emit-spec =

@@ -45,28 +45,41 @@ slice-aggregate-add-oil c = search needs
 
 add-oil-requires : tie.Need-add-oil-requires
 add-oil-requires c κs =
-    let s = c .before .before .before .before .before .before .before .before .before .before .before .before .before .before .before .before .before .before .before in
-    let b = s .pre .0 in
-    let rows = kept-room (vinegar-rows b (s .pre .1 .1 .0 .0)) (c .before .before .before .before .unpack-all .kept .0) in
-    (b, (rows, (kept-room (private-room b) (c .before .before .before .before .before .before .before .before .before .private-table .kept .0), oil-rows b (s .pre .1 .1 .0 .1))))
+    let at-unpack-all = c .before .before .before .before in
+    let at-private-table = at-unpack-all .before .before .before .before .before in
+    let begin = at-private-table .before .before .before .before .before .before .before .before .before .before in
+    let b = begin .pre .0 in
+    let rows = kept-room (vinegar-rows b (begin .pre .1 .1 .0 .0)) (at-unpack-all .unpack-all .kept .0) in
+    (b, (rows, (kept-room (private-room b) (at-private-table .private-table .kept .0), oil-rows b (begin .pre .1 .1 .0 .1))))
 
 add-scaled-requires : tie.Need-add-scaled-requires
 add-scaled-requires c κs =
-    let s = c .before .before .before .before .before .before .before .before .before .before .before .before .before .before .before .before .before .before .before .before .before .before .before in
-    let b = s .pre .0 in
-    let n = c .before .before .before .before .before .before .before .before .before .before .before .vinegar-count .ensures in
-    let m = c .before .before .before .before .before .before .before .before .before .before .unknowns .ensures in
-    let room = kept-room (kept-room (s .pre .1 .1 .0 .0) (c .before .before .before .before .before .before .before .before .unpack-all .kept .0)) (c .before .before .before .add-oil .kept .0) in
-    (oil-last b n m room, counted-from-start m (s .pre .1 .1 .0 .1))
+    let at-add-oil = c .before .before .before in
+    let at-unpack-all = at-add-oil .before .before .before .before .before in
+    let at-unknowns = at-unpack-all .before .before in
+    let at-vinegar-count = at-unknowns .before in
+    let begin = at-vinegar-count .before .before .before .before .before .before .before .before .before .before .before .before in
+    let b = begin .pre .0 in
+    let n = at-vinegar-count .vinegar-count .ensures in
+    let m = at-unknowns .unknowns .ensures in
+    let room = kept-room (kept-room (begin .pre .1 .1 .0 .0) (at-unpack-all .unpack-all .kept .0)) (at-add-oil .add-oil .kept .0) in
+    (oil-last b n m room, counted-from-start m (begin .pre .1 .1 .0 .1))
 
 same-length : tie.Need-same-length
 same-length c = search needs
 
 returns : tie.Need-returns
 returns c =
-    let s = c .before .before .before .before .before .before .before .before .before .before .before .before .before .before .before .before .before .before .before .before .before .before .before .before .before .before in
-    solution-from (s .args .oil .now) (c .before .before .before .before .before .before .before .before .before .before .before .before .before .before .before .before .private-table .ensures .holds) (c .before .before .before .before .before .before .before .before .before .before .before .before .before .before .vinegar-count .ensures) (c .before .before .before .before .before .before .before .before .before .before .before .before .before .unknowns .ensures) (s .pre .1 .1 .1)
-    (c .before .before .before .before .before .before .before .before .before .before .before .unpack-all .ensures) (c .before .before .before .before .before .before .add-oil .ensures) (c .before .before .add-scaled .ensures)
+    let at-add-scaled = c .before .before in
+    let at-add-oil = at-add-scaled .before .before .before .before in
+    let at-unpack-all = at-add-oil .before .before .before .before .before in
+    let at-unknowns = at-unpack-all .before .before in
+    let at-vinegar-count = at-unknowns .before in
+    let at-private-table = at-vinegar-count .before .before in
+    let begin = at-private-table .before .before .before .before .before .before .before .before .before .before in
+    solution-from (begin .args .oil .now) (at-private-table .private-table .ensures .holds) (at-vinegar-count .vinegar-count .ensures) (at-unknowns .unknowns .ensures)
+    (begin .pre .1 .1 .1)
+    (at-unpack-all .unpack-all .ensures) (at-add-oil .add-oil .ensures) (at-add-scaled .add-scaled .ensures)
 
 pub solution-list-spec : {M : Type 1} → statement M
 solution-list-spec =

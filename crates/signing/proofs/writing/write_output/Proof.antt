@@ -15,26 +15,50 @@ packed-bytes-requires c κs = search needs
 
 mul-put-row : tie.Need-mul-put-row
 unfolding packedBytes
-mul-put-row c = omega (arith, c .before .packed-bytes .ensures, c .before .before .signature-count .ensures, c .before .before .before .before .before .before .pre .0 .sizes .signature)
+mul-put-row c =
+    let at-packed-bytes = c .before in
+    let at-signature-count = at-packed-bytes .before in
+    let begin = at-signature-count .before .before .before .before in
+    omega (arith, at-packed-bytes .packed-bytes .ensures, at-signature-count .signature-count .ensures, begin .pre .0 .sizes .signature)
 
 put-row-requires : tie.Need-put-row-requires
 unfolding packedBytes
 put-row-requires c κs =
-    let s = c .before .before .before .before .before .before in
-    ((omega (arith, c .before .packed-bytes .ensures, c .before .before .signature-count .ensures, s .pre .1 .0 .0), omega (arith, c .before .packed-bytes .ensures, c .before .before .signature-count .ensures, s .pre .1 .0 .1)), λ k h. s .pre .1 .1 .0 (0 + k))
+    let at-packed-bytes = c .before in
+    let at-signature-count = at-packed-bytes .before in
+    let begin = at-signature-count .before .before .before .before in (
+      (
+        omega (arith, at-packed-bytes .packed-bytes .ensures, at-signature-count .signature-count .ensures, begin .pre .1 .0 .0),
+        omega
+            (arith, at-packed-bytes .packed-bytes .ensures, at-signature-count .signature-count .ensures, begin .pre .1 .0 .1),
+      ),
+      λ k h. begin .pre .1 .1 .0 (0 + k),
+    )
 
 write-salt-requires : tie.Need-write-salt-requires
 unfolding packedBytes
-write-salt-requires c κs = omega (arith, c .before .before .before .before .before .packed-bytes .ensures, c .before .before .before .before .before .before .signature-count .ensures, c .before .before .before .put-row .kept .0, c .before .before .before .before .before .before .before .before .before .before .pre .1 .0 .0)
+write-salt-requires c κs =
+    let at-put-row = c .before .before .before in
+    let at-packed-bytes = at-put-row .before .before in
+    let at-signature-count = at-packed-bytes .before in
+    let begin = at-signature-count .before .before .before .before in
+    omega (arith, at-packed-bytes .packed-bytes .ensures, at-signature-count .signature-count .ensures, at-put-row .put-row .kept .0, begin .pre .1 .0 .0)
 
 same-length : tie.Need-same-length
 same-length c = search needs
 
 returns : tie.Need-returns
 returns c =
-    let s = c .before .before .before .before .before .before .before .before .before .before .before .before .before in
-    output-from _ (s .args .u .now) (s .args .salt .now) (s .pre .1 .1 .0) (s .pre .1 .1 .1) (c .before .before .before .before .before .before .before .before .before .signature-count .ensures) (c .before .before .before .before .before .before .before .before .packed-bytes .ensures)
-    (record { below = λ k. omega (arith, c .before .before .before .before .slice-known2 .given k) }) (s .pre .1 .0 .0) (c .before .before .before .before .before .before .put-row .ensures) (c .before .before .write-salt .ensures)
+    let at-write-salt = c .before .before in
+    let at-slice-known2 = at-write-salt .before .before in
+    let at-put-row = at-slice-known2 .before .before in
+    let at-packed-bytes = at-put-row .before .before in
+    let at-signature-count = at-packed-bytes .before in
+    let begin = at-signature-count .before .before .before .before in
+    output-from _ (begin .args .u .now) (begin .args .salt .now) (begin .pre .1 .1 .0) (begin .pre .1 .1 .1) (at-signature-count .signature-count .ensures)
+    (at-packed-bytes .packed-bytes .ensures)
+    (record { below = λ k. omega (arith, at-slice-known2 .slice-known2 .given k) }) (begin .pre .1 .0 .0) (at-put-row .put-row .ensures)
+    (at-write-salt .write-salt .ensures)
 
 pub write-output-spec : {M : Type 1} → statement M
 write-output-spec =

@@ -11,7 +11,10 @@ make-invertible-requires : tie.Need-make-invertible-requires
 make-invertible-requires c κs = search needs
 
 returns : tie.Need-returns
-returns c = let s = c .before .before .before in makes-read (s .args .l) (s .args .stream .now) (s .args .number) (s .pre .0) (c .before .read-block .ensures) (c .make-invertible .ensures)
+returns c =
+    let at-read-block = c .before in
+    let begin = at-read-block .before .before in
+    makes-read (begin .args .l) (begin .args .stream .now) (begin .args .number) (begin .pre .0) (at-read-block .read-block .ensures) (c .make-invertible .ensures)
 
 pub invertible-at-spec : {M : Type 1} → statement M
 invertible-at-spec =

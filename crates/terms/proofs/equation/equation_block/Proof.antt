@@ -24,7 +24,10 @@ loop-holds : tie.Need-loop-holds Inv-loop μ-loop
 loop-holds c = (omega arith, sum-start _ _)
 
 term-block-requires : tie.Need-term-block-requires Inv-loop μ-loop
-term-block-requires c κs = let s = c .before .before .before .before .before in (record { bounds = s .pre .0 .0; equation = s .pre .0 .1; below = omega (arith, c .before .before .term-count .ensures) }, (s .pre .1 .0, s .pre .1 .1))
+term-block-requires c κs =
+    let at-term-count = c .before .before in
+    let begin = at-term-count .before .before .before in
+    (record { bounds = begin .pre .0 .0; equation = begin .pre .0 .1; below = omega (arith, at-term-count .term-count .ensures) }, (begin .pre .1 .0, begin .pre .1 .1))
 
 plus-requires : tie.Need-plus-requires Inv-loop μ-loop
 plus-requires c κs = search needs
@@ -37,11 +40,15 @@ loop-less c = search needs
 
 loop-again : tie.Need-loop-again Inv-loop μ-loop
 loop-again c =
-    let at = c .before .before .before in
-    let s = at .before .before .before .before in
+    let at-term-block = c .before in
+    let begin = at-term-block .before .before in
+    let s = begin .before .before .before .before in
     let a = s .args in
-    let inside : a .set .l ≤ 5 = omega (arith, s .pre .0 .0 .limits .l-most) in
-    (omega arith, sum-step inside (termFrom (a .set) (a .abq .now) (a .sums .now) (a .i)) (at .loop .alpha) (at .loop .inv .1) (c .before .term-block .ensures) (c .plus .ensures))
+    let inside : a .set .l ≤ 5 = omega (arith, s .pre .0 .0 .limits .l-most) in (
+      omega arith,
+      sum-step inside (termFrom (a .set) (a .abq .now) (a .sums .now) (a .i)) (begin .loop .alpha) (begin .loop .inv .1) (at-term-block .term-block .ensures)
+          (c .plus .ensures),
+    )
 
 returns : tie.Need-returns Inv-loop μ-loop
 returns c =

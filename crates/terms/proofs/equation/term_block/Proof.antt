@@ -58,25 +58,38 @@ product-requires : tie.Need-product-requires
 product-requires c κs = omega (arith, c .before .before .before .before .before .before .before .before .before .before .before .before .pre .0 .bounds .limits .l-most)
 
 product-requires-2 : tie.Need-product-requires-2
-product-requires-2 c κs = omega (arith, c .before .before .before .before .before .before .before .before .before .before .before .before .before .pre .0 .bounds .limits .l-most)
+product-requires-2 c κs =
+    let begin = c .before .before .before .before .before .before .before .before .before .before .before .before .before in
+    omega (arith, begin .pre .0 .bounds .limits .l-most)
 
 returns : tie.Need-returns
 unfolding termFrom
 returns c =
-    let s = c .before .before .before .before .before .before .before .before .before .before .before .before .before .before in
-    let t = s .pre .0 in
-    let set = s .args .set in
-    let abq = s .args .abq .now in
-    let sums = s .args .sums .now in
-    let i = s .args .i in
-    let alpha = s .args .alpha in
-    let all = s .pre .1 .0 .1 in
+    let at-product = c .before in
+    let at-gathered-block = at-product .before .before .before in
+    let at-q2-number = at-gathered-block .before in
+    let at-q1-number = at-q2-number .before in
+    let at-matrix-index = at-q1-number .before in
+    let at-invertible-at2 = at-matrix-index .before in
+    let at-b-number = at-invertible-at2 .before in
+    let at-invertible-at = at-b-number .before in
+    let at-a-number = at-invertible-at .before in
+    let begin = at-a-number .before .before .before in
+    let a = begin .args in
+    let t = begin .pre .0 in
+    let set = a .set in
+    let abq = a .abq .now in
+    let sums = a .sums .now in
+    let i = a .i in
+    let alpha = a .alpha in
+    let all = begin .pre .1 .0 .1 in
     let inside : set .l ≤ 5 = omega (arith, t .bounds .limits .l-most) in
     term-of inside (A set abq i alpha) (gatheredFrom (set .l) (q1Of set abq i alpha) (q2Of set abq i alpha) sums (matrixIndex set i alpha)) (B set abq i alpha)
-    (a-is t abq all (c .before .before .before .before .before .before .before .before .before .before .before .a-number .ensures) (c .before .before .before .before .before .before .before .before .before .before .invertible-at .ensures))
-    (middle-is t abq sums (c .before .before .before .before .before .before .before .matrix-index .ensures) (c .before .before .before .before .before .before .q1-number .ensures) (c .before .before .before .before .before .q2-number .ensures) (c .before .before .before .before .gathered-block .ensures))
-    (b-is t abq all (c .before .before .before .before .before .before .before .before .before .b-number .ensures) (c .before .before .before .before .before .before .before .before .invertible-at2 .ensures))
-    (c .before .product .ensures) (c .product2 .ensures)
+    (a-is t abq all (at-a-number .a-number .ensures) (at-invertible-at .invertible-at .ensures))
+    (middle-is t abq sums (at-matrix-index .matrix-index .ensures) (at-q1-number .q1-number .ensures) (at-q2-number .q2-number .ensures)
+    (at-gathered-block .gathered-block .ensures))
+    (b-is t abq all (at-b-number .b-number .ensures) (at-invertible-at2 .invertible-at2 .ensures))
+    (at-product .product .ensures) (c .product2 .ensures)
 
 pub term-block-spec : {M : Type 1} → statement M
 term-block-spec =

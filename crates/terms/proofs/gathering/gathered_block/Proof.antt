@@ -31,7 +31,9 @@ slice-aggregate-add-columns-2 : tie.Need-slice-aggregate-add-columns-2
 slice-aggregate-add-columns-2 c = search needs
 
 mul-add-columns-3 : tie.Need-mul-add-columns-3
-mul-add-columns-3 c = let s = c .before .before .before .before .before .before in omega (arith, sums-start (s .args .l) (s .args .index) (length (s .args .sums .now)) (s .pre .0 .1))
+mul-add-columns-3 c =
+    let begin = c .before .before .before .before .before .before in
+    omega (arith, sums-start (begin .args .l) (begin .args .index) (length (begin .args .sums .now)) (begin .pre .0 .1))
 
 add-columns-requires : tie.Need-add-columns-requires
 add-columns-requires c κs =
@@ -56,11 +58,16 @@ folded-requires c κs =
 
 returns : tie.Need-returns
 returns c =
-    let a = c .before .before .before .before .before .before .before .before .before .before .before .args in
+    let at-add-columns = c .before .before .before .before in
+    let at-coefficients-of2 = at-add-columns .before .before .before in
+    let at-coefficients-of = at-coefficients-of2 .before in
+    let begin = at-coefficients-of .before .before .before in
+    let a = begin .args in
     c .folded .ensures
     ∙ block-same
-    (gathered-is (a .l) _ _ (a .sums .now) (a .index) _ _ _ {d = zeros 125} (zero-at 125) (c .before .before .before .before .before .before .before .before .coefficients-of .ensures) (c .before .before .before .before .before .before .before .coefficients-of2 .ensures)
-    (c .before .before .before .before .add-columns .ensures))
+    (gathered-is (a .l) _ _ (a .sums .now) (a .index) _ _ _ {d = zeros 125} (zero-at 125) (at-coefficients-of .coefficients-of .ensures)
+    (at-coefficients-of2 .coefficients-of2 .ensures)
+    (at-add-columns .add-columns .ensures))
 
 pub gathered-block-spec : {M : Type 1} → statement M
 gathered-block-spec =

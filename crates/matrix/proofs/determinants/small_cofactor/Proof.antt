@@ -1,0 +1,62 @@
+-- `matrix::small_cofactor` meets its contract: the two rows that are left, written out (`det-two`).
+use mathlib.Core.Path.{refl, sym, ap, ap₂, _∙_}
+use Rattle.field.specs.Field.{add, mul}
+use Rattle.matrix.specs.Block.{view}
+use Rattle.matrix.specs.Determinant.{minor, skip-lt}
+use Rattle.matrix.specs.Steps.{det-two}
+use native.Mathlib.Omega.{arith}
+use borrow.Author.Needs.{needs}
+use Rattle.matrix.proofs.determinants.small_cofactor.Statement.{statement}
+use Rattle.matrix.proofs.determinants.small_cofactor.Tie as tie
+
+skip-requires : tie.Need-skip-requires
+skip-requires c κs = search needs
+
+skip-requires-2 : tie.Need-skip-requires-2
+skip-requires-2 c κs = search needs
+
+entry-requires : tie.Need-entry-requires
+entry-requires c κs = omega (arith, c .before .skip .ensures, skip-lt (c .before .before .args .r) 0 1 (omega arith))
+
+entry-requires-2 : tie.Need-entry-requires-2
+entry-requires-2 c κs = omega (arith, c .before .skip2 .ensures, skip-lt (c .before .before .before .args .r) 1 2 (omega arith))
+
+mul-requires : tie.Need-mul-requires
+mul-requires c κs = search needs
+
+entry-requires-3 : tie.Need-entry-requires-3
+entry-requires-3 c κs = omega (arith, c .before .before .before .skip2 .ensures, skip-lt (c .before .before .before .before .before .args .r) 1 2 (omega arith))
+
+entry-requires-4 : tie.Need-entry-requires-4
+entry-requires-4 c κs = omega (arith, c .before .before .before .before .before .skip .ensures, skip-lt (c .before .before .before .before .before .before .args .r) 0 1 (omega arith))
+
+mul-requires-2 : tie.Need-mul-requires-2
+mul-requires-2 c κs = search needs
+
+add-requires : tie.Need-add-requires
+add-requires c κs = search needs
+
+returns : tie.Need-returns
+unfolding minor
+returns c =
+    let m = view (c .before .before .before .before .before .before .before .before .before .args .m) in
+    let first = c .before .before .before .before .before .before .before .before .skip .ensures in
+    let second = c .before .before .before .before .before .before .before .skip2 .ensures in
+    let down = c .before .before .before .before .mul .ensures ∙ ap₂ mul (c .before .before .before .before .before .before .entry .ensures ∙ ap (λ i. m i 1) first) (c .before .before .before .before .before .entry2 .ensures ∙ ap (λ i. m i 2) second) in
+    let up = c .before .mul2 .ensures ∙ ap₂ mul (c .before .before .before .entry3 .ensures ∙ ap (λ i. m i 1) second) (c .before .before .entry4 .ensures ∙ ap (λ i. m i 2) first) in
+    c .add .ensures ∙ ap₂ add down up ∙ sym (det-two (minor m (c .before .before .before .before .before .before .before .before .before .args .r)) refl)
+
+pub small-cofactor-spec : {M : Type 1} → statement M
+small-cofactor-spec =
+    tie.close
+    (tie.spec
+    skip-requires
+    skip-requires-2
+    entry-requires
+    entry-requires-2
+    mul-requires
+    entry-requires-3
+    entry-requires-4
+    mul-requires-2
+    add-requires
+    returns)

@@ -1,0 +1,64 @@
+-- `matrix::small_determinant` meets its contract: sizes 0, 1 and 2 written out (`det-none`, `det-one`, `det-two`).
+use mathlib.Core.Path.{sym, ap, ap₂, _∙_}
+use Rattle.field.specs.Field.{add, mul}
+use Rattle.matrix.specs.Steps.{det-none, det-one, det-two}
+use native.Mathlib.Omega.{arith}
+use borrow.Author.Needs.{needs}
+use Rattle.matrix.proofs.determinants.small_determinant.Statement.{statement}
+use Rattle.matrix.proofs.determinants.small_determinant.Tie as tie
+
+returns : tie.Need-returns
+returns c = sym (det-none _ (c .if1 .taken))
+
+entry-requires : tie.Need-entry-requires
+entry-requires c κs = search needs
+
+mul-requires : tie.Need-mul-requires
+mul-requires c κs = search needs
+
+returns-2 : tie.Need-returns-2
+returns-2 c = c .mul .ensures ∙ ap (λ x. mul x 1) (c .before .entry .ensures) ∙ sym (det-one _ (c .before .before .if2 .taken))
+
+entry-requires-2 : tie.Need-entry-requires-2
+entry-requires-2 c κs = search needs
+
+entry-requires-3 : tie.Need-entry-requires-3
+entry-requires-3 c κs = search needs
+
+mul-requires-2 : tie.Need-mul-requires-2
+mul-requires-2 c κs = search needs
+
+entry-requires-4 : tie.Need-entry-requires-4
+entry-requires-4 c κs = search needs
+
+entry-requires-5 : tie.Need-entry-requires-5
+entry-requires-5 c κs = search needs
+
+mul-requires-3 : tie.Need-mul-requires-3
+mul-requires-3 c κs = search needs
+
+add-requires : tie.Need-add-requires
+add-requires c κs = search needs
+
+returns-3 : tie.Need-returns-3
+returns-3 c =
+    let down = c .before .before .before .before .mul2 .ensures ∙ ap₂ mul (c .before .before .before .before .before .before .entry2 .ensures) (c .before .before .before .before .before .entry3 .ensures) in
+    let up = c .before .mul3 .ensures ∙ ap₂ mul (c .before .before .before .entry4 .ensures) (c .before .before .entry5 .ensures) in
+    c .add .ensures ∙ ap₂ add down up ∙ sym (det-two _ (omega (arith, c .before .before .before .before .before .before .before .before .before .pre, c .before .before .before .before .before .before .before .before .if1 .left, c .before .before .before .before .before .before .before .if2 .left)))
+
+pub small-determinant-spec : {M : Type 1} → statement M
+small-determinant-spec =
+    tie.close
+    (tie.spec
+    returns
+    entry-requires
+    mul-requires
+    returns-2
+    entry-requires-2
+    entry-requires-3
+    mul-requires-2
+    entry-requires-4
+    entry-requires-5
+    mul-requires-3
+    add-requires
+    returns-3)
