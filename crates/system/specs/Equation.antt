@@ -1,9 +1,9 @@
 -- The rows of the system as the code adds them: term by term, then the last column; over the tables of the left sums, the right sums and the power sums.
 -- Rests on Sides, and on terms' equation from a table of power sums.
-use mathlib.Core.Path.{_≡_, refl, sym, ap, ap₂, _∙_}
+use mathlib.Core.Path.{_≡_, sym, ap, ap₂, _∙_}
 use mathlib.Core.List.{List}
 use Prim.Native.Nat.{ℕ, _+_, _*_, _/_, _%_, _<_, _≤_}
-use native.Mathlib.Nat.{mul-le-mul, mul-le-mul-right, le-mul-of-pos-right, div-lt-iff-lt-mul, mod-lt, zero-add as zero-plus}
+use native.Mathlib.Nat.{mul-le-mul-right, div-lt-iff-lt-mul, mod-lt}
 use native.Mathlib.Decide.{decLt}
 use native.Mathlib.Omega.{arith}
 use borrow.Author.Tests.{lt-ltb, le-ltb}
@@ -17,19 +17,18 @@ use Rattle.field.specs.Field.{add, mul}
 use Rattle.field.specs.Laws.{add-zero, one-mul}
 use Rattle.packing.specs.Packing.{element}
 use Rattle.rows.specs.Zero.{zeros, length-zeros}
-use Rattle.rows.specs.Plus.{Plus, plus-cong, plus-then}
+use Rattle.rows.specs.Plus.{Plus, plus-then}
 use Rattle.rows.specs.PlusRows.{PlusRows, rows-cong}
-use Rattle.rows.specs.Tile.{tile}
 use Rattle.sets.specs.declared.Set.{Set}
-use Rattle.sets.specs.Sets.{terms, targetCount, targetBytes}
+use Rattle.sets.specs.Sets.{terms, targetBytes}
 use Rattle.sets.specs.Bounds.{Bounds}
-use Rattle.matrix.specs.Matrix.{Matrix, mulM, transpose}
-use Rattle.matrix.specs.Same.{Same, same-refl, same-mul, mulM-lt, sumM-lt}
+use Rattle.matrix.specs.Matrix.{Matrix, transpose}
+use Rattle.matrix.specs.Same.{same-refl, same-mul, mulM-lt, sumM-lt}
 use Rattle.matrix.specs.Block.{view, block, holds}
 use Rattle.scheme.specs.Streams.{A, B}
-use Rattle.scheme.specs.Maps.{sumM, matrixIndex}
+use Rattle.scheme.specs.Maps.{matrixIndex}
 use Rattle.scheme.specs.Regroup.{q1Of, q2Of}
-use Rattle.terms.specs.Places.{Term, index-lt}
+use Rattle.terms.specs.Places.{Term}
 use Rattle.terms.specs.Terms.{equationFrom, termFrom}
 use Rattle.tables.specs.Table.{cleared}
 use Rattle.system.specs.Products.{HasRows, zero-rows-from}
@@ -89,7 +88,8 @@ pub term-rows : {set : Set} {i alpha : ℕ} → Term set i alpha → (abq left r
     → PlusRows d at (set .l * set .l) (set .o * set .l * set .l + 1) (rowGain (set .l) (set .o) lefts rights a bt) t
     → PlusRows d at (set .l * set .l) (set .o * set .l * set .l + 1) (termRow set abq left right sp i alpha) t
 unfolding rowGain termRow cellGain termCell sideOf view transpose
-term-rows {set} {i} {alpha} term abq left right sp {lefts} {rights} {a} {b} {bt} {q1} {q2} {index = index} {g1 = g1} {g2 = g2} index-is g1-is g2-is a-is b-is bt-is q1-is q2-is hl hr p =
+term-rows {set} {i} {alpha} term abq left right sp {lefts} {rights} {a} {b} {bt} {q1} {q2} {index = index} {g1 = g1} {g2 = g2}
+    index-is g1-is g2-is a-is b-is bt-is q1-is q2-is hl hr p =
     rows-cong (λ e z he hz. by e z he hz) p
   where
     l : ℕ
@@ -203,23 +203,26 @@ built set abq target left right sums sp before {after = after} z p = record {
 
 -- ---- places
 
+-- a term's blocks stand in the tables: those of the left and the right sums from a block row on that is at most the index's, and the powers of S
 pub record TermPlaces (set : Set) (index : ℕ) : Type 0 where
-  pub left : (k x : ℕ) → k < set .o → x < set .l → (index * set .l + k * 0 + x * 1 + 1) * set .l * (set .o * set .l) ≤ set .o * (set .l * set .l) * (set .o * set .l)
+  pub left : (row k x : ℕ) → row ≤ index * set .l → k < set .o → x < set .l
+      → (row + k * 0 + x * 1 + 1) * set .l * (set .o * set .l) ≤ set .o * (set .l * set .l) * (set .o * set .l)
   pub left-column : (k x : ℕ) → k < set .o → x < set .l → (k * 1 + x * 0 + 1) * set .l ≤ set .o * set .l
-  pub right : (k x : ℕ) → k < set .o → x < set .l → (index * set .o + k * 1 + x * 0 + 1) * set .l * (set .l * set .l) ≤ set .o * (set .o * set .l) * (set .l * set .l)
+  pub right : (row k x : ℕ) → row ≤ index * set .o → k < set .o → x < set .l
+      → (row + k * 1 + x * 0 + 1) * set .l * (set .l * set .l) ≤ set .o * (set .o * set .l) * (set .l * set .l)
   pub right-column : (k x : ℕ) → k < set .o → x < set .l → (k * 0 + x * 1 + 1) * set .l ≤ set .l * set .l
   pub powers : (x : ℕ) → x < set .l → (0 + x * 1 + 1) * set .l * set .l ≤ set .l * set .l * set .l
   pub power-column : (x : ℕ) → x < set .l → (0 + x * 0 + 1) * set .l ≤ set .l
 
 pub term-places : (set : Set) (index : ℕ) → index < set .o → TermPlaces set index
 term-places set index h = record {
-  left = λ k x hk hx.
-      let row : index * set .l + x + 1 ≤ set .o * set .l = omega (arith, digits-lt h hx) in
-      omega (arith, mul-le-mul-right (set .l * (set .o * set .l)) row);
+  left = λ row k x hr hk hx.
+      let rows : row + x + 1 ≤ set .o * set .l = omega (arith, digits-lt h hx) in
+      omega (arith, mul-le-mul-right (set .l * (set .o * set .l)) rows);
   left-column = λ k x hk hx. omega (arith, row-fits (set .l) hk);
-  right = λ k x hk hx.
-      let row : index * set .o + k + 1 ≤ set .o * set .o = omega (arith, digits-lt h hk) in
-      omega (arith, mul-le-mul-right (set .l * (set .l * set .l)) row);
+  right = λ row k x hr hk hx.
+      let rows : row + k + 1 ≤ set .o * set .o = omega (arith, digits-lt h hk) in
+      omega (arith, mul-le-mul-right (set .l * (set .l * set .l)) rows);
   right-column = λ k x hk hx. omega (arith, row-fits (set .l) hx);
   powers = λ x hx. omega (arith, mul-le-mul-right (set .l) (row-fits (set .l) hx));
   power-column = λ x hx. omega arith;

@@ -70,7 +70,8 @@ module _ (set : Set) (public x : List ℕ) where
 
 -- ---- the scheme's sums, where x holds the powers of S times the vinegar, and t holds T12
 
-module _ (set : Set) (public : List ℕ) (x : List ℕ) (vinegar : ℕ → Matrix) (hx : Holds (set .l) (set .l * set .l) (set .v) (set .l) x (λ j b. powerTimes (set .l) b (vinegar j))) where
+module _ (set : Set) (public : List ℕ) (x : List ℕ) (vinegar : ℕ → Matrix)
+    (hx : Holds (set .l) (set .l * set .l) (set .v) (set .l) x (λ j b. powerTimes (set .l) b (vinegar j))) where
   right-p11-scheme : (i u b : ℕ) → b < set .l → Same (set .l) (rightP11From set public x i u b) (rightP11 set public vinegar i u b)
   unfolding rightP11From rightP11
   right-p11-scheme i u b hb = same-sum (set .v) (λ j hj. same-mul same-refl (hx .same j b hj hb))

@@ -1,13 +1,13 @@
 -- One term of an equation: the blocks A·L·Q2 and Q1·R·B for each oil index, and what its rows of the system gain from them.
 -- Rests on matrix's blocks, rows' PlusRows and Products.
-use mathlib.Core.Path.{_≡_, refl, sym, ap, ap₂, _∙_}
+use mathlib.Core.Path.{_≡_, sym, ap, _∙_}
 use mathlib.Core.List.{List}
 use Prim.Native.Nat.{ℕ, _+_, _*_, _/_, _%_, _<_, _≤_}
-use native.Mathlib.Nat.{le-refl, mul-pos, mul-le-mul, mul-le-mul-right, le-mul-of-pos-right, div-lt-iff-lt-mul, mod-lt, zero-add as zero-plus}
+use native.Mathlib.Nat.{mul-pos, mul-le-mul, le-mul-of-pos-right, div-lt-iff-lt-mul, mod-lt, zero-add as zero-plus}
 use native.Mathlib.Decide.{decLt}
 use native.Mathlib.Omega.{arith}
 use borrow.Author.Tests.{lt-ltb, le-ltb}
-use lib.Arith.{digits-lt, digits-div, digits-mod}
+use lib.Arith.{digits-lt}
 use lib.Dec.{ltb}
 use lib.ListN.{length, getD}
 use Rattle.ground.specs.Pick.{pick}
@@ -19,7 +19,7 @@ use Rattle.rows.specs.Plus.{Plus, plus-cong, plus-then}
 use Rattle.rows.specs.PlusRows.{PlusRows, rows-plus}
 use Rattle.rows.specs.Tile.{tile}
 use Rattle.matrix.specs.Matrix.{Matrix, mulM, scaleM, addM}
-use Rattle.matrix.specs.Same.{Same, same-refl, same-trans, same-mul, mulM-lt, same-scale}
+use Rattle.matrix.specs.Same.{same-refl, same-trans, same-mul, mulM-lt, same-scale}
 use Rattle.matrix.specs.Block.{view, block, block-same, holds, cell, cell-at, getD-block}
 use Rattle.scheme.specs.Maps.{sumM}
 use Rattle.terms.specs.Reading.{cell-entry}

@@ -8,8 +8,7 @@ use native.Mathlib.Nat.{div-add-mod', div-lt-iff-lt-mul, mod-lt}
 use native.Mathlib.Omega.{arith}
 use borrow.Author.Tests.{lt-ltb, le-ltb}
 use lib.Arith.{digits-lt, digits-div, digits-mod}
-use lib.Dec.{ltb}
-use lib.ListN.{length, getD}
+use lib.ListN.{getD}
 use Rattle.ground.specs.Pick.{pick}
 use Rattle.algebra.specs.Sum.{sum, sum-cong, sum-zeros}
 use Rattle.algebra.specs.Powers.{polynomial}
@@ -21,22 +20,22 @@ use Rattle.rows.specs.Tile.{tile}
 use Rattle.sets.specs.declared.Set.{Set}
 use Rattle.sets.specs.Sets.{terms}
 use Rattle.sets.specs.Bounds.{Bounds}
-use Rattle.matrix.specs.Matrix.{Matrix, mulM, scaleM}
+use Rattle.matrix.specs.Matrix.{Matrix, mulM}
 use Rattle.matrix.specs.Same.{Same, same-refl, same-trans, same-equal, same-sum, same-scale, same-mul}
-use Rattle.matrix.specs.RingElements.{algorithm1, coefficient, powerS}
-use Rattle.scheme.specs.Streams.{groupOf, A, B, Q1, Q2, P11, T12}
-use Rattle.scheme.specs.Maps.{sumM, matrixIndex, vinegarPart}
+use Rattle.matrix.specs.RingElements.{algorithm1, coefficient}
+use Rattle.scheme.specs.Streams.{A, B, Q1, Q2, P11, T12}
+use Rattle.scheme.specs.Maps.{matrixIndex, vinegarPart}
 use Rattle.scheme.specs.Regroup.{q1Of, q2Of, powerTimes}
 use Rattle.scheme.specs.Oil.{square-pos, last-digit, entryAt}
 use Rattle.scheme.specs.Coefficients.{leftSum, rightSum, coefficientOf, coefficientAt, left-by-powers, right-by-powers}
-use Rattle.terms.specs.Places.{Term, index-lt}
+use Rattle.terms.specs.Places.{index-lt}
 use Rattle.terms.specs.Terms.{equationFrom}
 use Rattle.terms.specs.FromSums.{HoldsSums, vinegar-from-sums}
 use Rattle.tables.specs.Table.{Holds}
 use Rattle.tables.specs.RingRows.{Powers}
 use Rattle.system.specs.Filled.{LeftHolds, RightHolds, SumsHold, sums-scheme, right-scheme, left-scheme}
 use Rattle.system.specs.Sides.{combinedFrom, sideOf}
-use Rattle.system.specs.Equation.{leftSide, rightSide, termCell, termRow, equationRow, targetRow, systemRow, Built}
+use Rattle.system.specs.Equation.{leftSide, rightSide, termCell, termRow, targetRow, Built}
 
 -- Algorithm 1's element, from the table of the powers of S
 ring-element : (l : ℕ) (sp : List ℕ) → Powers l sp → (a : ℕ → ℕ) → Same l (combinedFrom l (coefficient l a) sp l 0 0 1 0) (algorithm1 l a)
@@ -52,11 +51,13 @@ module _ (set : Set) (bounds : Bounds set) (public abq private : List ℕ) (vine
   positive : 0 < set .l
   positive = omega (arith, bounds .limits .l-least)
 
-  module _ {before : List ℕ} (hleft : LeftHolds set public x t before left) {before′ : List ℕ} (hright : RightHolds set public x t before′ right) (i : ℕ) (hi : i < set .o) (alpha : ℕ) (below : alpha < terms set) (k : ℕ) (hk : k < set .o) where
+  module _ {before : List ℕ} (hleft : LeftHolds set public x t before left) {before′ : List ℕ} (hright : RightHolds set public x t before′ right)
+      (i : ℕ) (hi : i < set .o) (alpha : ℕ) (below : alpha < terms set) (k : ℕ) (hk : k < set .o) where
     index : matrixIndex set i alpha < set .o
     index = index-lt (record { bounds = bounds; equation = hi; below = below })
 
-    left-sum : Same (set .l) (combinedFrom (set .l) (q1Of set abq i alpha) left (set .o * set .l) (matrixIndex set i alpha * set .l + k * 0) (k * 1) 1 0) (leftSum set public abq private vinegar i alpha k)
+    left-sum : Same (set .l) (combinedFrom (set .l) (q1Of set abq i alpha) left (set .o * set .l) (matrixIndex set i alpha * set .l + k * 0) (k * 1) 1 0)
+        (leftSum set public abq private vinegar i alpha k)
     unfolding combinedFrom
     left-sum = same-trans
         (same-sum (set .l) (λ y hy.
@@ -66,7 +67,8 @@ module _ (set : Set) (bounds : Bounds set) (public abq private : List ℕ) (vine
         (same-trans (hleft .same (matrixIndex set i alpha) y k index hy hk) (left-scheme set public x vinegar hx private t ht (matrixIndex set i alpha) k y hk hy)))))
         (same-equal (sym (left-by-powers set public private vinegar abq i alpha k positive)))
 
-    right-sum : Same (set .l) (combinedFrom (set .l) (q2Of set abq i alpha) right (set .l * set .l) (matrixIndex set i alpha * set .o + k * 1) (k * 0) 0 1) (rightSum set public abq private vinegar i alpha k)
+    right-sum : Same (set .l) (combinedFrom (set .l) (q2Of set abq i alpha) right (set .l * set .l) (matrixIndex set i alpha * set .o + k * 1) (k * 0) 0 1)
+        (rightSum set public abq private vinegar i alpha k)
     unfolding combinedFrom
     right-sum = same-trans
         (same-sum (set .l) (λ y hy.
@@ -76,11 +78,13 @@ module _ (set : Set) (bounds : Bounds set) (public abq private : List ℕ) (vine
         (same-trans (hright .same (matrixIndex set i alpha) k y index hk hy) (right-scheme set public x vinegar hx private t ht (matrixIndex set i alpha) k y hk hy)))))
         (same-equal (sym (right-by-powers set public private vinegar abq i alpha k)))
 
-    left-side : Same (set .l) (leftSide set abq left right sp i alpha k) (mulM (set .l) (A set abq i alpha) (mulM (set .l) (leftSum set public abq private vinegar i alpha k) (Q2 set abq i alpha)))
+    left-side : Same (set .l) (leftSide set abq left right sp i alpha k)
+        (mulM (set .l) (A set abq i alpha) (mulM (set .l) (leftSum set public abq private vinegar i alpha k) (Q2 set abq i alpha)))
     unfolding sideOf Q2
     left-side = same-mul same-refl (same-mul left-sum (ring-element (set .l) sp hs _))
 
-    right-side : Same (set .l) (rightSide set abq left right sp i alpha k) (mulM (set .l) (Q1 set abq i alpha) (mulM (set .l) (rightSum set public abq private vinegar i alpha k) (B set abq i alpha)))
+    right-side : Same (set .l) (rightSide set abq left right sp i alpha k)
+        (mulM (set .l) (Q1 set abq i alpha) (mulM (set .l) (rightSum set public abq private vinegar i alpha k) (B set abq i alpha)))
     unfolding sideOf Q1
     right-side = same-mul (ring-element (set .l) sp hs _) (same-mul right-sum same-refl)
 
@@ -123,14 +127,16 @@ module _ (set : Set) (bounds : Bounds set) (public abq private : List ℕ) (vine
       unfolding termRow targetRow
       built-known hsums i r c hi hr hc =
           let e : ℕ = r * set .l + c in
+          let n : ℕ = set .o * set .l * set .l in
           let past : set .o * set .l * set .l ≤ set .o * set .l * set .l = omega arith in
+          let known : ℕ = add (equationFrom set abq sums i (e / set .l) (e % set .l)) (element target (i * (set .l * set .l) + e)) in
           let holding : HoldsSums (set .l) (set .v) (P11 set public) vinegar (set .o) sums =
           record { same = λ j a b hj ha hb. same-trans (hsums .same j a b hj ha hb) (sums-scheme set public x vinegar hx j a b ha hb) } in
           built .row i (r * set .l + c) (set .o * set .l * set .l) hi (digits-lt hr hc) (omega arith)
-          ∙ ap (λ (w : Bool). add (sum 0 add (terms set) (λ alpha. pick w (termCell set abq left right sp i alpha (e / set .l) (e % set .l) (set .o * set .l * set .l / set .l) (set .o * set .l * set .l % set .l)) 0))
-          (pick w 0 (add (equationFrom set abq sums i (e / set .l) (e % set .l)) (element target (i * (set .l * set .l) + e)))))
+          ∙ ap (λ (w : Bool). add (sum 0 add (terms set) (λ alpha. pick w (termCell set abq left right sp i alpha (e / set .l) (e % set .l) (n / set .l) (n % set .l)) 0))
+          (pick w 0 known))
           (le-ltb (set .o * set .l * set .l) (set .o * set .l * set .l) past)
-          ∙ ap (λ m. add m (add (equationFrom set abq sums i (e / set .l) (e % set .l)) (element target (i * (set .l * set .l) + e)))) (sum-zeros field-ring (terms set) (λ alpha h. refl))
+          ∙ ap (λ m. add m known) (sum-zeros field-ring (terms set) (λ alpha h. refl))
           ∙ zero-add _
           ∙ ap₂ (λ u v. add (equationFrom set abq sums i u v) (element target (i * (set .l * set .l) + e))) (digits-div r hc) (digits-mod r hc)
           ∙ ap (λ m. add m (element target (i * (set .l * set .l) + e))) (vinegar-from-sums bounds abq public positive holding i hi .at r c hr hc)
@@ -174,19 +180,24 @@ system-holds set bounds public abq private vinegar x t left right sums sp hx ht 
       let l : ℕ = set .l in
       let dy = digits (set .l) (set .o) y p hy in
       let de = digits (set .l) (set .o) e p he in
-      let place : y * (set .o * (set .l * set .l) + 1) + e ≡ (y / (l * l) * (l * l) + (y % (l * l) / l * l + y % l)) * (set .o * set .l * set .l + 1) + ((e / (l * l) * l + e % (l * l) / l) * l + e % l) =
+      let place : y * (set .o * (set .l * set .l) + 1) + e
+      ≡ (y / (l * l) * (l * l) + (y % (l * l) / l * l + y % l)) * (set .o * set .l * set .l + 1) + ((e / (l * l) * l + e % (l * l) / l) * l + e % l) =
       ap₂ (λ u v. u * (set .o * (set .l * set .l) + 1) + v) (sym (number-is (set .l) y)) (sym (number-is (set .l) e))
       ∙ shape (y / (l * l) * (l * l) + (y % (l * l) / l * l + y % l)) (e / (l * l)) (e % (l * l) / l) (e % l) in
       ap (λ k. getD after k 0) place
-      ∙ built-coefficient set bounds public abq private vinegar x t left right sums sp hx ht hs hleft hright built (y / (l * l)) (y % (l * l) / l) (y % l) (e / (l * l)) (e % (l * l) / l) (e % l)
+      ∙ built-coefficient set bounds public abq private vinegar x t left right sums sp hx ht hs hleft hright built
+      (y / (l * l)) (y % (l * l) / l) (y % l) (e / (l * l)) (e % (l * l) / l) (e % l)
       (dy .first) (dy .middle) (dy .last) (de .first) (de .middle) (de .last);
   known = λ y hy.
       let l : ℕ = set .l in
       let dy = digits (set .l) (set .o) y p hy in
-      let place : y * (set .o * (set .l * set .l) + 1) + set .o * (set .l * set .l) ≡ (y / (l * l) * (l * l) + (y % (l * l) / l * l + y % l)) * (set .o * set .l * set .l + 1) + set .o * set .l * set .l =
-      ap (λ u. u * (set .o * (set .l * set .l) + 1) + set .o * (set .l * set .l)) (sym (number-is (set .l) y)) ∙ last-shape (y / (l * l) * (l * l) + (y % (l * l) / l * l + y % l)) in
+      let place : y * (set .o * (set .l * set .l) + 1) + set .o * (set .l * set .l)
+      ≡ (y / (l * l) * (l * l) + (y % (l * l) / l * l + y % l)) * (set .o * set .l * set .l + 1) + set .o * set .l * set .l =
+      ap (λ u. u * (set .o * (set .l * set .l) + 1) + set .o * (set .l * set .l)) (sym (number-is (set .l) y))
+      ∙ last-shape (y / (l * l) * (l * l) + (y % (l * l) / l * l + y % l)) in
       ap (λ k. getD after k 0) place
-      ∙ built-known set bounds public abq private vinegar x t left right sums sp hx ht hs hleft hright built hsums (y / (l * l)) (y % (l * l) / l) (y % l) (dy .first) (dy .middle) (dy .last)
+      ∙ built-known set bounds public abq private vinegar x t left right sums sp hx ht hs hleft hright built hsums
+      (y / (l * l)) (y % (l * l) / l) (y % l) (dy .first) (dy .middle) (dy .last)
       ∙ ap (λ n. add (vinegarPart set public abq vinegar (y / (l * l)) (y % (l * l) / l) (y % l)) (element target n)) (number-is (set .l) y);
 }
   where

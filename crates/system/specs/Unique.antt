@@ -114,7 +114,8 @@ pub unique-combined : (table abq : List ℕ) (l w row column down across group :
     → r′ ≡ block l (combinedFrom l (coefficient l (groupOf l abq group)) table w row column down across) → r ≡ r′
 unique-combined table abq l w row column down across group = unique-equation
 
-pub unique-load-blocks : (stream : List ℕ) (l number count : ℕ) {t u : List ℕ} → HasRows l (count * l) (blocksRow l stream number) t → HasRows l (count * l) (blocksRow l stream number) u
+pub unique-load-blocks : (stream : List ℕ) (l number count : ℕ) {t u : List ℕ}
+    → HasRows l (count * l) (blocksRow l stream number) t → HasRows l (count * l) (blocksRow l stream number) u
     → (r z : ℕ) → r < l → z < count * l → getD t (r * (count * l) + z) 0 ≡ getD u (r * (count * l) + z) 0
 unique-load-blocks stream l number count p q r z hr hz = p .at r z hr hz ∙ sym (q .at r z hr hz)
 

@@ -33,7 +33,8 @@ fn add_term(
 )
     requires { ⌜ Term set i alpha ⌝ }
     requires { ⌜ (length (now abq) ≡ abqBytes set) × (allInvertible set (now abq) ≡ true) ⌝ }
-    requires { ⌜ (at + set .l * set .l * (set .o * set .l * set .l + 1) ≤ length (now g)) × ((set .o * (set .l * set .l) * (set .o * set .l) ≤ length (now left)) × ((set .o * (set .o * set .l) * (set .l * set .l) ≤ length (now right)) × (set .l * set .l * set .l ≤ length (now sp)))) ⌝ }
+    requires { ⌜ (at + set .l * set .l * (set .o * set .l * set .l + 1) ≤ length (now g)) × ((set .o * (set .l * set .l) * (set .o * set .l) ≤ length (now left))
+        × ((set .o * (set .o * set .l) * (set .l * set .l) ≤ length (now right)) × (set .l * set .l * set .l ≤ length (now sp)))) ⌝ }
     ensures { λ _. ⌜ PlusRows (now (g .entry)) at (set .l * set .l) (set .o * set .l * set .l + 1)
         (termRow set (now (abq .entry)) (now (left .entry)) (now (right .entry)) (now (sp .entry)) i alpha) (now (g .exit)) ⌝ }
 {
@@ -95,7 +96,8 @@ fn add_equation(
 )
     requires { ⌜ Bounds set × (i < set .o) ⌝ }
     requires { ⌜ (length (now abq) ≡ abqBytes set) × (allInvertible set (now abq) ≡ true) ⌝ }
-    requires { ⌜ (at + set .l * set .l * (set .o * set .l * set .l + 1) ≤ length (now g)) × ((set .o * (set .l * set .l) * (set .o * set .l) ≤ length (now left)) × ((set .o * (set .o * set .l) * (set .l * set .l) ≤ length (now right)) × (set .l * set .l * set .l ≤ length (now sp)))) ⌝ }
+    requires { ⌜ (at + set .l * set .l * (set .o * set .l * set .l + 1) ≤ length (now g)) × ((set .o * (set .l * set .l) * (set .o * set .l) ≤ length (now left))
+        × ((set .o * (set .o * set .l) * (set .l * set .l) ≤ length (now right)) × (set .l * set .l * set .l ≤ length (now sp)))) ⌝ }
     ensures { λ _. ⌜ PlusRows (now (g .entry)) at (set .l * set .l) (set .o * set .l * set .l + 1)
         (equationRow set (now (abq .entry)) (now (left .entry)) (now (right .entry)) (now (sp .entry)) i) (now (g .exit)) ⌝ }
 {
@@ -111,7 +113,8 @@ fn add_equation(
 fn add_target(g: &mut [u8], at: usize, set: Set, abq: &[u8], sums: &[u8], target: &[u8], i: usize)
     requires { ⌜ Bounds set × (i < set .o) ⌝ }
     requires { ⌜ (length (now abq) ≡ abqBytes set) × (allInvertible set (now abq) ≡ true) ⌝ }
-    requires { ⌜ (at + set .l * set .l * (set .o * set .l * set .l + 1) ≤ length (now g)) × ((set .o * (set .l * set .l) * (set .l * set .l) ≤ length (now sums)) × (length (now target) ≡ targetBytes set)) ⌝ }
+    requires { ⌜ (at + set .l * set .l * (set .o * set .l * set .l + 1) ≤ length (now g)) × ((set .o * (set .l * set .l) * (set .l * set .l) ≤ length (now sums))
+        × (length (now target) ≡ targetBytes set)) ⌝ }
     ensures { λ _. ⌜ PlusRows (now (g .entry)) at (set .l * set .l) (set .o * set .l * set .l + 1)
         (targetRow set (now (abq .entry)) (now (sums .entry)) (now (target .entry)) i) (now (g .exit)) ⌝ }
 {
@@ -141,7 +144,8 @@ pub fn build(
 )
     requires { ⌜ Bounds set × (set .o * (set .l * set .l) * (set .o * set .l * set .l + 1) ≤ length (now g)) ⌝ }
     requires { ⌜ (length (now abq) ≡ abqBytes set) × ((allInvertible set (now abq) ≡ true) × (length (now target) ≡ targetBytes set)) ⌝ }
-    requires { ⌜ (set .o * (set .l * set .l) * (set .o * set .l) ≤ length (now left)) × ((set .o * (set .o * set .l) * (set .l * set .l) ≤ length (now right)) × ((set .l * set .l * set .l ≤ length (now sp)) × (set .o * (set .l * set .l) * (set .l * set .l) ≤ length (now sums)))) ⌝ }
+    requires { ⌜ (set .o * (set .l * set .l) * (set .o * set .l) ≤ length (now left)) × ((set .o * (set .o * set .l) * (set .l * set .l) ≤ length (now right))
+        × ((set .l * set .l * set .l ≤ length (now sp)) × (set .o * (set .l * set .l) * (set .l * set .l) ≤ length (now sums)))) ⌝ }
     ensures { λ _. ⌜ Built set (now (abq .entry)) (now (target .entry)) (now (left .entry)) (now (right .entry)) (now (sums .entry)) (now (sp .entry))
         (now (g .entry)) (now (g .exit)) ⌝ }
 {

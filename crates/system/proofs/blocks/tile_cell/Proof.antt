@@ -1,5 +1,5 @@
 -- `system::blocks::tile_cell` meets its contract: a byte outside l is 0, any other the entry at its row and column. Rests on Sides.
-use Prim.Native.Nat.{_+_, _*_, _/_, _%_, _<_, _≤_}
+use Prim.Native.Nat.{_/_, _%_}
 use lib.ListN.{length}
 use Rattle.terms.specs.Reading.{cell-below, cell-right}
 use Rattle.system.specs.Sides.{EntryFits, entry-fits, tile-cell-is}

@@ -1,5 +1,5 @@
 -- `system::equation::add_equation` meets its contract. The invariant: the first alpha terms are added. Rests on Products.
-use Prim.Native.Nat.{_+_, _*_, _-_, _<_, _≤_}
+use Prim.Native.Nat.{_+_, _*_, _-_, _<_}
 use Rattle.sets.specs.Sets.{terms}
 use Rattle.system.specs.Products.{Summing, summing-none, summing-next, summing-end}
 use Rattle.system.specs.Equation.{termRow}

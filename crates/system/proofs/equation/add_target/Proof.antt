@@ -1,6 +1,6 @@
 -- `system::equation::add_target` meets its contract. The invariant: the last bytes of the first e rows have gained. Rests on Equation.
 use mathlib.Core.Path.{_≡_, refl, ap, sym, _∙_}
-use Prim.Native.Nat.{_+_, _*_, _-_, _<_, _≤_}
+use Prim.Native.Nat.{_+_, _*_, _-_, _<_}
 use lib.ListN.{length}
 use lib.Arith.{digits-lt}
 use Rattle.matrix.specs.Block.{length-block}

@@ -1,6 +1,6 @@
 -- `system::equation::build` meets its contract. The invariant: the rows of the first i equations are there. Rests on Equation.
 use mathlib.Core.Path.{refl}
-use Prim.Native.Nat.{_+_, _*_, _-_, _<_, _≤_}
+use Prim.Native.Nat.{_+_, _*_, _-_, _≤_}
 use Rattle.rows.specs.PlusRows.{rows-then}
 use Rattle.system.specs.Products.{Stacking, stacking-none, stacking-next, stacking-end}
 use Rattle.system.specs.Places.{TableSizes, table-sizes, stack-fits}

@@ -1,6 +1,6 @@
 -- `system::left::fill_left` meets its contract. The invariant: the rows of the first i matrix indices are there. Rests on Filled.
 use mathlib.Core.Path.{refl}
-use Prim.Native.Nat.{_+_, _*_, _-_, _<_, _≤_}
+use Prim.Native.Nat.{_+_, _*_, _-_, _≤_}
 use Rattle.system.specs.Products.{Stacking, stacking-none, stacking-next, stacking-end}
 use Rattle.system.specs.LeftRight.{leftRow}
 use Rattle.system.specs.Filled.{left-filled}

@@ -1,6 +1,6 @@
 -- `system::products::add_left` meets its contract. The invariant: the terms of the first j are added. Rests on Products.
 use mathlib.Core.Path.{_≡_}
-use Prim.Native.Nat.{_+_, _*_, _-_, _<_, _≤_}
+use Prim.Native.Nat.{_+_, _*_, _-_}
 use lib.ListN.{length}
 use native.Mathlib.Nat.{le-mul-of-pos-right, mul-le-mul}
 use Rattle.rows.specs.Zero.{length-zeros}

@@ -1,6 +1,5 @@
 -- `system::products::add_products` meets its contract. The invariant: the first y rows have gained. Rests on Products.
-use mathlib.Core.Path.{refl}
-use Prim.Native.Nat.{_+_, _*_, _-_, _<_, _≤_}
+use Prim.Native.Nat.{_*_, _-_}
 use native.Mathlib.Nat.{le-mul-of-pos-right}
 use Rattle.system.specs.Products.{Adding, adding-none, adding-next, adding-end, productsRow, ProductTurn, product-turn}
 use borrow.Author.Needs.{needs}

@@ -1,5 +1,5 @@
 -- `system::products::add_times` meets its contract. The invariant: the first y rows have gained. Rests on Products.
-use Prim.Native.Nat.{_+_, _*_, _-_, _<_, _≤_}
+use Prim.Native.Nat.{_+_, _*_, _-_, _≤_}
 use lib.Arith.{digits-lt}
 use Rattle.ground.specs.Place.{row-fits}
 use Rattle.system.specs.Products.{Adding, adding-none, adding-next, adding-end, timesGain, rowsOf, times-row}

@@ -1,5 +1,5 @@
 -- `system::products::add_transposed` meets its contract. The invariant: the first y rows have gained. Rests on Products.
-use Prim.Native.Nat.{_+_, _*_, _-_, _<_, _≤_}
+use Prim.Native.Nat.{_+_, _*_, _-_, _≤_}
 use native.Mathlib.Nat.{mul-le-mul-right}
 use lib.Arith.{digits-lt}
 use Rattle.ground.specs.Place.{row-fits}

@@ -1,5 +1,5 @@
 -- `system::products::load_blocks` meets its contract. The invariant: the first r rows are loaded. Rests on Products.
-use Prim.Native.Nat.{_+_, _*_, _-_, _<_, _≤_}
+use Prim.Native.Nat.{_+_, _*_, _-_, _≤_}
 use native.Mathlib.Nat.{le-mul-of-pos-right}
 use Rattle.ground.specs.Place.{row-fits}
 use Rattle.tables.specs.Gains.{blocksRow}

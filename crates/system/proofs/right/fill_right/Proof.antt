@@ -1,6 +1,6 @@
 -- `system::right::fill_right` meets its contract. The invariant: the rows of the first i matrix indices are there, in both tables. Rests on Filled.
 use mathlib.Core.Path.{_≡_, refl}
-use Prim.Native.Nat.{_+_, _*_, _-_, _<_, _≤_}
+use Prim.Native.Nat.{_+_, _*_, _-_, _≤_}
 use lib.ListN.{length}
 use Rattle.rows.specs.Zero.{length-zeros}
 use Rattle.system.specs.Products.{Stacking, stacking-none, stacking-next, stacking-end, transposed-loaded}

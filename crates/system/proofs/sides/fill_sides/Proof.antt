@@ -1,8 +1,7 @@
 -- `system::sides::fill_sides` meets its contract. The invariant: the first k blocks are there, and zeros behind them. Rests on Sides and Products.
-use mathlib.Core.Path.{_≡_, ap, sym, _∙_}
-use Prim.Native.Nat.{ℕ, _+_, _*_, _-_, _<_, _≤_}
+use mathlib.Core.Path.{ap}
+use Prim.Native.Nat.{ℕ, _+_, _*_, _-_}
 use lib.ListN.{length}
-use Rattle.matrix.specs.Matrix.{Matrix}
 use Rattle.matrix.specs.Block.{view, length-block}
 use Rattle.matrix.specs.RingElements.{coefficient}
 use Rattle.scheme.specs.Streams.{groupOf}
