@@ -2,6 +2,7 @@ pub mod Products
 pub mod LeftRight
 pub mod Filled
 pub mod Places
+pub mod BlockRows
 pub mod Sides
 pub mod Equation
 pub mod System

@@ -25,29 +25,12 @@ use Rattle.scheme.specs.Maps.{sumM}
 use Rattle.terms.specs.Reading.{cell-entry}
 use Rattle.terms.specs.Adding.{sum-step}
 use Rattle.system.specs.Products.{HasRows, zero-rows-from}
+use Rattle.system.specs.BlockRows.{widened}
 
 -- ---- blocks of a table, combined by coefficients q
 
 unfoldable pub combinedFrom : (l : ℕ) (q : ℕ → ℕ) (table : List ℕ) (w row column down across : ℕ) → Matrix
 combinedFrom l q table w row column down across = sumM l (λ x. scaleM (q x) (tile l w table (row + x * down) (column + x * across)))
-
--- a byte of a block of the table
-pub tile-cell-is : (l w : ℕ) (table : List ℕ) (j k e : ℕ) → e / 5 < l → e % 5 < l
-    → getD table ((j * l + e / 5) * w + (k * l + e % 5)) 0 ≡ cell l (tile l w table j k) e
-unfolding tile
-tile-cell-is l w table j k e hr hc = cell-entry l (tile l w table j k) e hr hc
-
--- the place of entry (r, c) of block (j, k) lies within the table, and nothing that it is made of is larger
-pub record EntryFits (l w j k r c n : ℕ) : Type 0 where
-  pub row : j * l + r ≤ (j * l + r) * w
-  pub place : (j * l + r) * w + (k * l + c) < n
-
-pub entry-fits : {l w j k r c n : ℕ} → (j + 1) * l * w ≤ n → (k + 1) * l ≤ w → r < l → c < l → EntryFits l w j k r c n
-entry-fits {l} {w} {j} {k} {r} {c} rows columns hr hc =
-    let inside : k * l + c < w = omega arith in
-    let positive : 0 < w = omega arith in
-    let row : j * l + r < (j + 1) * l = omega arith in
-    record { row = le-mul-of-pos-right (j * l + r) positive; place = omega (arith, digits-lt row inside) }
 
 -- block (x, y) lies within the table, and so do its numbers
 pub record TileFits (l w x y n : ℕ) : Type 0 where
@@ -61,16 +44,6 @@ tile-fits {l} {w} {x} {y} {n} hl rows columns =
     let column : y + 1 ≤ w = omega (arith, le-mul-of-pos-right (y + 1) hl) in
     let positive : 0 < w = omega arith in
     record { rows = rows; columns = columns; row = omega (arith, le-mul-of-pos-right (x + 1) (mul-pos hl positive)); column = column }
-
--- one coefficient more
-pub combined-step : {l : ℕ} → l ≤ 5 → (q : ℕ → ℕ) (table : List ℕ) (w row column down across x : ℕ) {factor : ℕ} {sum part term more : List ℕ}
-    → sum ≡ block l (sumM x (λ x. scaleM (q x) (tile l w table (row + x * down) (column + x * across)))) → factor ≡ q x
-    → part ≡ block l (tile l w table (row + x * down) (column + x * across)) → term ≡ block l (scaleM factor (view part)) → more ≡ block l (addM (view sum) (view term))
-    → more ≡ block l (sumM (x + 1) (λ x. scaleM (q x) (tile l w table (row + x * down) (column + x * across))))
-combined-step {l} small q table w row column down across x {factor} {sum} {part} {term} {more} s f p t m =
-    let term-is : term ≡ block l (scaleM (q x) (tile l w table (row + x * down) (column + x * across))) =
-    t ∙ block-same (same-scale factor (holds small p)) ∙ ap (λ a. block l (scaleM a (tile l w table (row + x * down) (column + x * across)))) f in
-    sum-step small (λ x. scaleM (q x) (tile l w table (row + x * down) (column + x * across))) x s term-is m
 
 -- ---- first · (combined) · last, for each k
 
@@ -123,22 +96,10 @@ cell-row l lefts rights a bt r c q p s = plus-then p s
 unfoldable pub rowGain : (l count : ℕ) (lefts rights a bt : List ℕ) → ℕ → ℕ → ℕ
 rowGain l count lefts rights a bt e z = pick (ltb z (count * l * l)) (cellGain l lefts rights a bt (e / l) (e % l) (z / l) (z % l)) 0
 
-widen : {d t : List ℕ} {at n : ℕ} {f : ℕ → ℕ} → Plus d at n f t → Plus d at (n + 1) (λ c. pick (ltb c n) (f c) 0) t
-widen {d} {t} {at} {n} {f} p = record {
-  long = p .long;
-  inside = λ k h.
-      elim (decLt k n) [
-        | yes b ↦ p .inside k b ∙ ap (add (getD d (at + k) 0)) (rw (lt-ltb k n b))
-        | no b ↦ let past : n ≤ k = omega arith in p .high (at + k) (omega arith) ∙ sym (rw (le-ltb k n past) (add-zero _))
-      ];
-  low = p .low;
-  high = λ k h. p .high k (omega arith);
-}
-
 pub row-widened : (l count : ℕ) (lefts rights a bt : List ℕ) (e : ℕ) {d t : List ℕ} {at : ℕ}
     → PlusRows d at (count * l) l (cellGain l lefts rights a bt (e / l) (e % l)) t → Plus d at (count * l * l + 1) (rowGain l count lefts rights a bt e) t
 unfolding rowGain
-row-widened l count lefts rights a bt e p = widen (rows-plus p)
+row-widened l count lefts rights a bt e p = widened (omega arith) (rows-plus p)
 
 -- ---- places
 

@@ -1,11 +1,15 @@
-// Blocks read from byte tables, and the sum of l of them by the coefficients of Algorithm 1.
+// Sums of blocks of a byte table by the coefficients of Algorithm 1, and products of blocks: both by rows of l bytes, so that only entries inside l cost work.
 ghost use mathlib.Core.Path.{_≡_};
 ghost use Prim.Native.Nat.{ℕ, _+_, _*_, _<_, _≤_};
 ghost use lib.ListN.{length};
+ghost use Rattle.rows.specs.Plus.{Plus};
+ghost use Rattle.rows.specs.PlusRows.{PlusRows};
 ghost use Rattle.rows.specs.Tile.{tile};
-ghost use Rattle.matrix.specs.Block.{block, cell};
+ghost use Rattle.matrix.specs.Matrix.{mulM, scaleM};
+ghost use Rattle.matrix.specs.Block.{view, block};
 ghost use Rattle.matrix.specs.RingElements.{coefficient};
 ghost use Rattle.scheme.specs.Streams.{groupOf};
+ghost use Rattle.system.specs.BlockRows.{blockRow};
 ghost use Rattle.system.specs.Sides.{combinedFrom};
 use matrix::Block;
 
@@ -14,31 +18,24 @@ pub const STRIDE: usize = 5;
 
 pub const BYTES: usize = 25;
 
-// Byte e of block (j, k) of a table in rows of w bytes.
-fn tile_cell(table: &[u8], l: usize, w: usize, j: usize, k: usize, e: usize) -> u8
-    requires { ⌜ ((j + 1) * l * w ≤ length (now table)) × ((k + 1) * l ≤ w) ⌝ }
-    ensures { λ x. ⌜ x ≡ cell l (tile l w (now (table .entry)) j k) e ⌝ }
+// The l rows of a block, from byte 0 of sum on, gain factor times block (j, k) of a table in rows of w bytes.
+fn add_tile(
+    sum: &mut [u8],
+    l: usize,
+    factor: u8,
+    table: &[u8],
+    w: usize,
+    j: usize,
+    k: usize,
+)
+    requires { ⌜ (l ≤ 5) × ((25 ≤ length (now sum)) × (((j + 1) * l * w ≤ length (now table)) × ((k + 1) * l ≤ w))) ⌝ }
+    ensures { λ _. ⌜ PlusRows (now (sum .entry)) 0 l 5 (blockRow l (scaleM factor (tile l w (now (table .entry)) j k))) (now (sum .exit)) ⌝ }
 {
-    let r = e / STRIDE;
-    if l <= r {
-        return 0;
+    let mut r = 0;
+    while r < l {
+        rows::add_scaled(sum, r * STRIDE, table, (j * l + r) * w + k * l, l, factor);
+        r += 1;
     }
-    let c = e % STRIDE;
-    if l <= c {
-        return 0;
-    }
-    table[(j * l + r) * w + (k * l + c)]
-}
-
-fn read_tile(table: &[u8], l: usize, w: usize, j: usize, k: usize) -> Block
-    requires { ⌜ ((j + 1) * l * w ≤ length (now table)) × ((k + 1) * l ≤ w) ⌝ }
-    ensures { λ r. ⌜ r ≡ block l (tile l w (now (table .entry)) j k) ⌝ }
-{
-    let mut out = [0; BYTES];
-    for e in 0..BYTES {
-        out[e] = tile_cell(table, l, w, j, k, e);
-    }
-    out
 }
 
 // The sum over x below l of coefficient x of a group of the ABQ stream times block (row + x·down, column + x·across) of a table in rows of w bytes.
@@ -57,15 +54,48 @@ pub fn combined(
     requires { ⌜ ((x : ℕ) → x < l → ((row + x * down + 1) * l * w ≤ length (now table)) × ((column + x * across + 1) * l ≤ w)) ⌝ }
     ensures { λ r. ⌜ r ≡ block l (combinedFrom l (coefficient l (groupOf l (now (abq .entry)) group)) (now (table .entry)) w row column down across) ⌝ }
 {
-    let mut sum = [0; BYTES];
+    let mut sum = [0u8; BYTES];
     let mut x = 0;
     while x < l {
         let factor = terms::coefficient_at(abq, l, group, x);
-        let part = read_tile(table, l, w, row + x * down, column + x * across);
-        let term = matrix::scaled(l, factor, part);
-        let more = matrix::plus(l, sum, term);
-        sum = more;
+        add_tile(
+            &mut sum,
+            l,
+            factor,
+            table,
+            w,
+            row + x * down,
+            column + x * across,
+        );
         x += 1;
     }
     sum
+}
+
+// The l bytes of row r of a block gain row r of a · b.
+fn add_product_row(out: &mut [u8], l: usize, a: &[u8], b: &[u8], r: usize)
+    requires { ⌜ (l ≤ 5) × (r < l) ⌝ }
+    requires { ⌜ (25 ≤ length (now out)) × ((25 ≤ length (now a)) × (25 ≤ length (now b))) ⌝ }
+    ensures { λ _. ⌜ Plus (now (out .entry)) (r * 5) l (mulM l (view (now (a .entry))) (view (now (b .entry))) r) (now (out .exit)) ⌝ }
+{
+    let mut y = 0;
+    while y < l {
+        let scalar = a[r * STRIDE + y];
+        rows::add_scaled(out, r * STRIDE, b, y * STRIDE, l, scalar);
+        y += 1;
+    }
+}
+
+// a · b, by its rows.
+pub fn product(l: usize, a: Block, b: Block) -> Block
+    requires { ⌜ l ≤ 5 ⌝ }
+    ensures { λ r. ⌜ r ≡ block l (mulM l (view a) (view b)) ⌝ }
+{
+    let mut out = [0u8; BYTES];
+    let mut r = 0;
+    while r < l {
+        add_product_row(&mut out, l, &a, &b, r);
+        r += 1;
+    }
+    out
 }

@@ -10,6 +10,7 @@ ghost use Rattle.system.specs.Sides.{Sides, sideOf, cellGain, rowGain};
 use super::blocks::BYTES;
 use super::blocks::STRIDE;
 use super::blocks::combined;
+use super::blocks::product;
 use matrix::Block;
 
 // out becomes, for each k below count, the block first · (what a group of the ABQ stream combines of the table) · last; and zeros behind them.
@@ -48,8 +49,8 @@ pub fn fill_sides(
             abq,
             group,
         );
-        let right = matrix::product(l, middle, last);
-        let side = matrix::product(l, first, right);
+        let right = product(l, middle, last);
+        let side = product(l, first, right);
         rows::add_scaled(out, k * BYTES, &side, 0, BYTES, 1);
         k += 1;
     }

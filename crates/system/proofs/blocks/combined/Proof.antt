@@ -1,15 +1,15 @@
--- `system::blocks::combined` meets its contract. The invariant: the block holds the sum of the first x terms. Rests on Sides.
-use mathlib.Core.Path.{_≡_}
-use Prim.Native.Nat.{_+_, _*_, _-_, _≤_}
+-- `system::blocks::combined` meets its contract. The invariant: the rows of the block have gained the first x terms. Rests on BlockRows, Products and Sides.
+use mathlib.Core.Path.{_≡_, _∙_}
+use Prim.Native.Nat.{_+_, _*_, _-_, _<_, _≤_}
 use lib.ListN.{length}
+use Rattle.rows.specs.Zero.{zeros, length-zeros}
 use Rattle.rows.specs.Tile.{tile}
 use Rattle.matrix.specs.Matrix.{scaleM}
-use Rattle.matrix.specs.Block.{block}
 use Rattle.matrix.specs.RingElements.{coefficient}
 use Rattle.scheme.specs.Streams.{groupOf}
-use Rattle.scheme.specs.Maps.{sumM}
-use Rattle.terms.specs.Adding.{sum-start}
-use Rattle.system.specs.Sides.{combinedFrom, combined-step, TileFits, tile-fits}
+use Rattle.system.specs.Products.{Summing, summing-none, summing-next, summing-end}
+use Rattle.system.specs.BlockRows.{blockRow, block-summed, tile-factor}
+use Rattle.system.specs.Sides.{combinedFrom, TileFits, tile-fits}
 use borrow.Author.Needs.{needs}
 use native.Mathlib.Omega.{arith}
 use Rattle.system.proofs.blocks.combined.Statement.{statement}
@@ -17,7 +17,8 @@ use Rattle.system.proofs.blocks.combined.Tie as tie
 
 abbrev Inv-loop : tie.InvT-loop
 Inv-loop table l w row column down across abq group sum₀ x₀ sum x =
-    (x ≤ l) × (sum ≡ block l (sumM x (λ x. scaleM (coefficient l (groupOf l abq group) x) (tile l w table (row + x * down) (column + x * across)))))
+    (length sum ≡ 25)
+    × Summing (zeros 25) 0 l 5 l (λ x. blockRow l (scaleM (coefficient l (groupOf l abq group) x) (tile l w table (row + x * down) (column + x * across)))) x sum
 
 abbrev μ-loop : tie.MeasureT-loop
 μ-loop table l w row column down across abq group sum₀ x₀ sum x = l - x
@@ -34,54 +35,53 @@ turn c =
     tile-fits (omega (arith, c .loop-test .taken)) (here .0) (here .1)
 
 loop-holds : tie.Need-loop-holds Inv-loop μ-loop
-loop-holds c = (omega arith, sum-start _ _)
+loop-holds c = (length-zeros 25, summing-none)
 
 coefficient-at-requires : tie.Need-coefficient-at-requires Inv-loop μ-loop
 coefficient-at-requires c κs = search needs
 
-mul-read-tile : tie.Need-mul-read-tile Inv-loop μ-loop
-mul-read-tile c = omega (arith, turn (c .before))
+slice-aggregate-add-tile : tie.Need-slice-aggregate-add-tile Inv-loop μ-loop
+slice-aggregate-add-tile c = search needs
 
-add-read-tile : tie.Need-add-read-tile Inv-loop μ-loop
-add-read-tile c = omega (arith, turn (c .before))
+mul-add-tile : tie.Need-mul-add-tile Inv-loop μ-loop
+mul-add-tile c = omega (arith, turn (c .before .before))
 
-mul-read-tile-2 : tie.Need-mul-read-tile-2 Inv-loop μ-loop
-mul-read-tile-2 c = omega (arith, turn (c .before))
+add-add-tile : tie.Need-add-add-tile Inv-loop μ-loop
+add-add-tile c = omega (arith, turn (c .before .before))
 
-add-read-tile-2 : tie.Need-add-read-tile-2 Inv-loop μ-loop
-add-read-tile-2 c = omega (arith, turn (c .before))
+mul-add-tile-2 : tie.Need-mul-add-tile-2 Inv-loop μ-loop
+mul-add-tile-2 c = omega (arith, turn (c .before .before))
 
-read-tile-requires : tie.Need-read-tile-requires Inv-loop μ-loop
-read-tile-requires c κs = (turn (c .before) .rows, turn (c .before) .columns)
+add-add-tile-2 : tie.Need-add-add-tile-2 Inv-loop μ-loop
+add-add-tile-2 c = omega (arith, turn (c .before .before))
 
-scaled-requires : tie.Need-scaled-requires Inv-loop μ-loop
-scaled-requires c κs = search needs
-
-plus-requires : tie.Need-plus-requires Inv-loop μ-loop
-plus-requires c κs = search needs
+add-tile-requires : tie.Need-add-tile-requires Inv-loop μ-loop
+add-tile-requires c κs =
+    let now = c .before .before in
+    (start now .pre .0 .0, (omega (arith, now .before .loop .inv .0), (turn now .rows, turn now .columns)))
 
 add-x : tie.Need-add-x Inv-loop μ-loop
-add-x c = omega (arith, c .before .before .before .before .loop-test .taken)
+add-x c = search needs
 
 loop-less : tie.Need-loop-less Inv-loop μ-loop
-loop-less c = omega (arith, c .before .before .before .before .loop-test .taken)
+loop-less c = search needs
 
 loop-again : tie.Need-loop-again Inv-loop μ-loop
 loop-again c =
-    let now = c .before .before .before .before in
+    let call = c .before in
+    let now = call .before .before .before in
     let a = start now .args in (
-      omega (arith, now .loop-test .taken),
-      combined-step (start now .pre .0 .0) (coefficient (a .l) (groupOf (a .l) (a .abq .now) (a .group))) (a .table .now) (a .w) (a .row) (a .column) (a .down) (a .across)
-          (now .before .loop .x) (now .before .loop .inv .1)
-          (c .before .before .before .coefficient-at .ensures) (c .before .before .read-tile .ensures) (c .before .scaled .ensures) (c .plus .ensures),
+      omega (arith, call .add-tile .kept .0, now .before .loop .inv .0),
+      summing-next (now .before .loop .inv .1) (now .loop-test .taken)
+          (tile-factor (a .l) (a .w) (a .table .now) (a .row + now .before .loop .x * a .down) (a .column + now .before .loop .x * a .across)
+          (call .before .before .coefficient-at .ensures) (call .add-tile .ensures)),
     )
 
 returns : tie.Need-returns Inv-loop μ-loop
 unfolding combinedFrom
 returns c =
     let at = c .before in
-    let all : at .loop .x ≡ at .before .before .before .args .l = omega (arith, at .loop .inv .0, c .loop-test .left) in
-    rw all at (at .loop .inv .1)
+    block-summed (at .before .before .before .args .l) _ (summing-end (at .loop .inv .1) (c .loop-test .left))
 
 pub combined-spec : {M : Type 1} → statement M
 combined-spec =
@@ -91,13 +91,12 @@ combined-spec =
     μ-loop
     loop-holds
     coefficient-at-requires
-    mul-read-tile
-    add-read-tile
-    mul-read-tile-2
-    add-read-tile-2
-    read-tile-requires
-    scaled-requires
-    plus-requires
+    slice-aggregate-add-tile
+    mul-add-tile
+    add-add-tile
+    mul-add-tile-2
+    add-add-tile-2
+    add-tile-requires
     add-x
     loop-less
     loop-again

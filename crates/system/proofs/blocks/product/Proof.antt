@@ -1,0 +1,71 @@
+-- `system::blocks::product` meets its contract. The invariant: the first r rows have gained theirs. Rests on BlockRows and Products.
+use mathlib.Core.Path.{_≡_, _∙_}
+use Prim.Native.Nat.{_+_, _*_, _-_, _<_, _≤_}
+use lib.ListN.{length}
+use Rattle.rows.specs.Zero.{zeros, length-zeros}
+use Rattle.matrix.specs.Matrix.{mulM}
+use Rattle.matrix.specs.Block.{view}
+use Rattle.system.specs.Products.{Adding, adding-none, adding-next-at, adding-end}
+use Rattle.system.specs.BlockRows.{blockRow, block-row, block-filled}
+use borrow.Author.Needs.{needs}
+use native.Mathlib.Omega.{arith}
+use Rattle.system.proofs.blocks.product.Statement.{statement}
+use Rattle.system.proofs.blocks.product.Tie as tie
+
+abbrev Inv-loop : tie.InvT-loop
+Inv-loop l a b out₀ r₀ out r = (length out ≡ 25) × Adding (zeros 25) 0 l 5 (blockRow l (mulM l (view a) (view b))) r out
+
+abbrev μ-loop : tie.MeasureT-loop
+μ-loop l a b out₀ r₀ out r = l - r
+
+loop-holds : tie.Need-loop-holds Inv-loop μ-loop
+loop-holds c = (length-zeros 25, adding-none)
+
+slice-aggregate-add-product-row : tie.Need-slice-aggregate-add-product-row Inv-loop μ-loop
+slice-aggregate-add-product-row c = search needs
+
+slice-aggregate-add-product-row-2 : tie.Need-slice-aggregate-add-product-row-2 Inv-loop μ-loop
+slice-aggregate-add-product-row-2 c = search needs
+
+slice-aggregate-add-product-row-3 : tie.Need-slice-aggregate-add-product-row-3 Inv-loop μ-loop
+slice-aggregate-add-product-row-3 c = search needs
+
+add-product-row-requires : tie.Need-add-product-row-requires Inv-loop μ-loop
+add-product-row-requires c κs = search needs
+
+add-r : tie.Need-add-r Inv-loop μ-loop
+add-r c = search needs
+
+loop-less : tie.Need-loop-less Inv-loop μ-loop
+loop-less c = search needs
+
+loop-again : tie.Need-loop-again Inv-loop μ-loop
+loop-again c =
+    let call = c .before in
+    let now = call .before .before .before .before in
+    let a = now .before .before .args in (
+      omega (arith, call .add-product-row .kept .0, now .before .loop .inv .0),
+      adding-next-at (now .before .loop .inv .1) (now .loop-test .taken) (omega arith)
+          (block-row (mulM (a .l) (view (a .t2)) (view (a .t3))) (now .before .before .pre) (call .add-product-row .ensures)),
+    )
+
+returns : tie.Need-returns Inv-loop μ-loop
+returns c =
+    let at = c .before in
+    block-filled _ (adding-end (at .loop .inv .1) (c .loop-test .left))
+
+pub product-spec : {M : Type 1} → statement M
+product-spec =
+    tie.close
+    (tie.spec
+    Inv-loop
+    μ-loop
+    loop-holds
+    slice-aggregate-add-product-row
+    slice-aggregate-add-product-row-2
+    slice-aggregate-add-product-row-3
+    add-product-row-requires
+    add-r
+    loop-less
+    loop-again
+    returns)
