@@ -19,15 +19,7 @@ pub const STRIDE: usize = 5;
 pub const BYTES: usize = 25;
 
 // The l rows of a block, from byte 0 of sum on, gain factor times block (j, k) of a table in rows of w bytes.
-fn add_tile(
-    sum: &mut [u8],
-    l: usize,
-    factor: u8,
-    table: &[u8],
-    w: usize,
-    j: usize,
-    k: usize,
-)
+fn add_tile(sum: &mut [u8], l: usize, factor: u8, table: &[u8], w: usize, j: usize, k: usize)
     requires { ⌜ (l ≤ 5) × ((25 ≤ length (now sum)) × (((j + 1) * l * w ≤ length (now table)) × ((k + 1) * l ≤ w))) ⌝ }
     ensures { λ _. ⌜ PlusRows (now (sum .entry)) 0 l 5 (blockRow l (scaleM factor (tile l w (now (table .entry)) j k))) (now (sum .exit)) ⌝ }
 {
