@@ -1,9 +1,9 @@
 -- The rows of the system as the code adds them: term by term, then the last column; over the tables of the left sums, the right sums and the power sums.
 -- Rests on Sides, and on terms' equation from a table of power sums.
-use mathlib.Core.Path.{_≡_, sym, ap, ap₂, _∙_}
+use mathlib.Core.Path.{_≡_, refl, sym, ap, ap₂, _∙_}
 use mathlib.Core.List.{List}
 use Prim.Native.Nat.{ℕ, _+_, _*_, _/_, _%_, _<_, _≤_}
-use native.Mathlib.Nat.{mul-le-mul-right, div-lt-iff-lt-mul, mod-lt}
+use native.Mathlib.Nat.{mul-le-mul, mul-le-mul-right, le-mul-of-pos-right, div-lt-iff-lt-mul, mod-lt, zero-add as zero-plus}
 use native.Mathlib.Decide.{decLt}
 use native.Mathlib.Omega.{arith}
 use borrow.Author.Tests.{lt-ltb, le-ltb}
@@ -12,27 +12,29 @@ use lib.Dec.{ltb}
 use lib.ListN.{length, getD}
 use Rattle.ground.specs.Pick.{pick}
 use Rattle.ground.specs.Place.{row-fits}
-use Rattle.algebra.specs.Sum.{sum}
+use Rattle.algebra.specs.Sum.{sum, sum-cong, sum-add, sum-zeros}
 use Rattle.field.specs.Field.{add, mul}
-use Rattle.field.specs.Laws.{add-zero, one-mul}
+use Rattle.field.specs.Laws.{add-zero, one-mul, mul-lt}
+use Rattle.field.specs.FieldRing.{field-ring, sum-lt}
 use Rattle.packing.specs.Packing.{element}
 use Rattle.rows.specs.Zero.{zeros, length-zeros}
-use Rattle.rows.specs.Plus.{Plus, plus-then}
+use Rattle.rows.specs.Plus.{Plus, plus-cong, plus-then}
 use Rattle.rows.specs.PlusRows.{PlusRows, rows-cong}
+use Rattle.rows.specs.Tile.{tile}
 use Rattle.sets.specs.declared.Set.{Set}
-use Rattle.sets.specs.Sets.{terms, targetBytes}
+use Rattle.sets.specs.Sets.{terms, targetCount, targetBytes}
 use Rattle.sets.specs.Bounds.{Bounds}
-use Rattle.matrix.specs.Matrix.{Matrix, transpose}
-use Rattle.matrix.specs.Same.{same-refl, same-mul, mulM-lt, sumM-lt}
-use Rattle.matrix.specs.Block.{view, block, holds}
+use Rattle.matrix.specs.Matrix.{Matrix, mulM, transpose}
+use Rattle.matrix.specs.Same.{Same, same-refl, same-mul, mulM-lt, sumM-lt}
+use Rattle.matrix.specs.Block.{view, block, block-same, holds, cell, cell-at, getD-block}
 use Rattle.scheme.specs.Streams.{A, B}
-use Rattle.scheme.specs.Maps.{matrixIndex}
+use Rattle.scheme.specs.Maps.{sumM, matrixIndex}
 use Rattle.scheme.specs.Regroup.{q1Of, q2Of}
-use Rattle.terms.specs.Places.{Term}
+use Rattle.terms.specs.Places.{Term, index-lt}
 use Rattle.terms.specs.Terms.{equationFrom, termFrom}
 use Rattle.tables.specs.Table.{cleared}
 use Rattle.system.specs.Products.{HasRows, zero-rows-from}
-use Rattle.system.specs.Sides.{Sides, sideOf, combinedFrom, cellGain, rowGain}
+use Rattle.system.specs.Sides.{Sides, sideOf, combinedFrom, outerRow, cellGain, rowGain}
 
 module _ (set : Set) (abq left right sp : List ℕ) where
   -- A·L·Q2 of oil index k
@@ -51,6 +53,14 @@ module _ (set : Set) (abq left right sp : List ℕ) where
   unfoldable pub termCell : (i alpha r c q b : ℕ) → ℕ
   termCell i alpha r c q b =
       add (mul (leftSide i alpha (q / set .l) r (q % set .l)) (B set abq i alpha b c)) (mul (rightSide i alpha (q / set .l) (q % set .l) c) (A set abq i alpha r b))
+
+  -- what term alpha adds to row z = (k·l + r)·l + y of the left products: entry (r, y) of A·L·Q2 times B transposed
+  unfoldable pub leftTerm : (i alpha z e : ℕ) → ℕ
+  leftTerm i alpha z e = mul (leftSide i alpha (z / set .l / set .l) (z / set .l % set .l) (z % set .l)) (cell (set .l) (transpose (B set abq i alpha)) e)
+
+  -- and to row z = (k·l + y)·l + c of the right products: entry (y, c) of Q1·R·B times A
+  unfoldable pub rightTerm : (i alpha z e : ℕ) → ℕ
+  rightTerm i alpha z e = mul (rightSide i alpha (z / set .l / set .l) (z / set .l % set .l) (z % set .l)) (cell (set .l) (A set abq i alpha) e)
 
   -- row e = r·l + c of equation i, column z: the unknowns, and nothing in the last column
   unfoldable pub termRow : (i alpha e z : ℕ) → ℕ
@@ -78,58 +88,119 @@ pub record Built (set : Set) (abq target left right sums sp before after : List 
 
 -- ---- one term
 
--- the rows made of the blocks are the term's
-pub term-rows : {set : Set} {i alpha : ℕ} → Term set i alpha → (abq left right sp : List ℕ) {lefts rights a b bt q1 q2 d t : List ℕ} {at index : ℕ} {g1 g2 : ℕ → ℕ}
-    → index ≡ matrixIndex set i alpha → g1 ≡ q1Of set abq i alpha → g2 ≡ q2Of set abq i alpha
-    → a ≡ block (set .l) (A set abq i alpha) → b ≡ block (set .l) (B set abq i alpha) → bt ≡ block (set .l) (transpose (view b))
-    → q1 ≡ block (set .l) (combinedFrom (set .l) g1 sp (set .l) 0 0 1 0) → q2 ≡ block (set .l) (combinedFrom (set .l) g2 sp (set .l) 0 0 1 0)
-    → Sides (set .l) (set .o) (sideOf (set .l) (view a) g1 left (set .o * set .l) (index * set .l) 1 0 (view q2)) lefts
-    → Sides (set .l) (set .o) (sideOf (set .l) (view q1) g2 right (set .l * set .l) (index * set .o) 0 1 (view b)) rights
-    → PlusRows d at (set .l * set .l) (set .o * set .l * set .l + 1) (rowGain (set .l) (set .o) lefts rights a bt) t
-    → PlusRows d at (set .l * set .l) (set .o * set .l * set .l + 1) (termRow set abq left right sp i alpha) t
-unfolding rowGain termRow cellGain termCell sideOf view transpose
-term-rows {set} {i} {alpha} term abq left right sp {lefts} {rights} {a} {b} {bt} {q1} {q2} {index = index} {g1 = g1} {g2 = g2}
-    index-is g1-is g2-is a-is b-is bt-is q1-is q2-is hl hr p =
-    rows-cong (λ e z he hz. by e z he hz) p
-  where
-    l : ℕ
-    l = set .l
+-- the products made of the blocks are the term's
+module _ {set : Set} {i alpha : ℕ} (term : Term set i alpha) (abq left right sp : List ℕ) {a b q1 q2 : List ℕ} {index : ℕ} {g1 g2 : ℕ → ℕ}
+    (index-is : index ≡ matrixIndex set i alpha) (g1-is : g1 ≡ q1Of set abq i alpha) (g2-is : g2 ≡ q2Of set abq i alpha)
+    (a-is : a ≡ block (set .l) (A set abq i alpha)) (b-is : b ≡ block (set .l) (B set abq i alpha))
+    (q1-is : q1 ≡ block (set .l) (combinedFrom (set .l) g1 sp (set .l) 0 0 1 0)) (q2-is : q2 ≡ block (set .l) (combinedFrom (set .l) g2 sp (set .l) 0 0 1 0)) where
+  positive : 0 < set .l
+  positive = omega (arith, term .bounds .limits .l-least)
 
-    positive : 0 < set .l
-    positive = omega (arith, term .bounds .limits .l-least)
+  small : set .l ≤ 5
+  small = omega (arith, term .bounds .limits .l-most)
 
-    small : set .l ≤ 5
-    small = omega (arith, term .bounds .limits .l-most)
+  pub left-products : {lefts bt d t : List ℕ} → bt ≡ block (set .l) (transpose (view b))
+      → Sides (set .l) (set .o) (sideOf (set .l) (view a) g1 left (set .o * set .l) (index * set .l) 1 0 (view q2)) lefts
+      → PlusRows d 0 (set .o * set .l * set .l) (set .l * 5) (outerRow (set .l) lefts bt) t
+      → PlusRows d 0 (set .o * set .l * set .l) (set .l * 5) (leftTerm set abq left right sp i alpha) t
+  unfolding outerRow leftTerm sideOf transpose
+  left-products {bt = bt} bt-is h p = rows-cong (λ z e hz he.
+      let q = div-lt-iff-lt-mul positive .1 hz in
+      let k = div-lt-iff-lt-mul positive .1 q in
+      let r = mod-lt (z / set .l) positive in
+      let y = mod-lt z positive in
+      let whole : bt ≡ block (set .l) (transpose (B set abq i alpha)) = bt-is ∙ block-same (record { at = λ x w hx hw. holds small b-is .at w x hw hx }) in
+      ap₂ mul
+      (h .at (z / set .l / set .l) (z / set .l % set .l) (z % set .l) k r y
+      ∙ same-mul (holds small a-is) (same-mul same-refl (holds small q2-is)) .at (z / set .l % set .l) (z % set .l) r y
+      ∙ rw (index-is, g1-is, g2-is))
+      (ap (λ m. getD m e 0) whole ∙ getD-block (set .l) (transpose (B set abq i alpha)) e (omega (arith, he, small)))) p
 
-    cells : (e z : ℕ) → e < set .l * set .l → z < set .o * set .l * set .l
-        → cellGain (set .l) lefts rights a bt (e / set .l) (e % set .l) (z / set .l) (z % set .l)
-        ≡ termCell set abq left right sp i alpha (e / set .l) (e % set .l) (z / set .l) (z % set .l)
-    cells e z he hz =
-        let r = div-lt-iff-lt-mul positive .1 he in
-        let c = mod-lt e positive in
-        let b′ = mod-lt z positive in
-        let q = div-lt-iff-lt-mul positive .1 hz in
-        let k = div-lt-iff-lt-mul positive .1 q in
-        let y = mod-lt (z / set .l) positive in
-        ap₂ add
-        (ap₂ mul
-        (hl .at (z / set .l / set .l) (e / set .l) (z / set .l % set .l) k r y
-        ∙ same-mul (holds small a-is) (same-mul same-refl (holds small q2-is)) .at (e / set .l) (z / set .l % set .l) r y
-        ∙ rw (index-is, g1-is, g2-is))
-        (holds small bt-is .at (e % set .l) (z % set .l) c b′ ∙ holds small b-is .at (z % set .l) (e % set .l) b′ c))
-        (ap₂ mul
-        (hr .at (z / set .l / set .l) (z / set .l % set .l) (e % set .l) k y c
-        ∙ same-mul (holds small q1-is) (same-mul same-refl (holds small b-is)) .at (z / set .l % set .l) (e % set .l) y c
-        ∙ rw (index-is, g1-is, g2-is))
-        (holds small a-is .at (e / set .l) (z % set .l) r b′))
+  pub right-products : {rights d t : List ℕ}
+      → Sides (set .l) (set .o) (sideOf (set .l) (view q1) g2 right (set .l * set .l) (index * set .o) 0 1 (view b)) rights
+      → PlusRows d 0 (set .o * set .l * set .l) (set .l * 5) (outerRow (set .l) rights a) t
+      → PlusRows d 0 (set .o * set .l * set .l) (set .l * 5) (rightTerm set abq left right sp i alpha) t
+  unfolding outerRow rightTerm sideOf
+  right-products h p = rows-cong (λ z e hz he.
+      let q = div-lt-iff-lt-mul positive .1 hz in
+      let k = div-lt-iff-lt-mul positive .1 q in
+      let y = mod-lt (z / set .l) positive in
+      let c = mod-lt z positive in
+      ap₂ mul
+      (h .at (z / set .l / set .l) (z / set .l % set .l) (z % set .l) k y c
+      ∙ same-mul (holds small q1-is) (same-mul same-refl (holds small b-is)) .at (z / set .l % set .l) (z % set .l) y c
+      ∙ rw (index-is, g1-is, g2-is))
+      (ap (λ m. getD m e 0) a-is ∙ getD-block (set .l) (A set abq i alpha) e (omega (arith, he, small)))) p
 
-    by : (e z : ℕ) → e < set .l * set .l → z < set .o * set .l * set .l + 1
-        → rowGain (set .l) (set .o) lefts rights a bt e z ≡ termRow set abq left right sp i alpha e z
-    by e z he hz =
-        elim (decLt z (set .o * set .l * set .l)) [
-          | yes h ↦ ap (λ x. pick (ltb z (set .o * set .l * set .l)) x 0) (cells e z he h)
-          | no h ↦ let past : set .o * set .l * set .l ≤ z = omega arith in rw (le-ltb z (set .o * set .l * set .l) past)
-        ]
+-- ---- one equation
+
+-- the rows made of the products of all terms are the equation's
+module _ {set : Set} (bounds : Bounds set) (abq left right sp : List ℕ) (i : ℕ) {lefts rights : List ℕ}
+    (left-rows : HasRows (set .o * set .l * set .l) (set .l * 5) (λ z e. sum 0 add (terms set) (λ alpha. leftTerm set abq left right sp i alpha z e)) lefts)
+    (right-rows : HasRows (set .o * set .l * set .l) (set .l * 5) (λ z e. sum 0 add (terms set) (λ alpha. rightTerm set abq left right sp i alpha z e)) rights) where
+  some : 0 < set .l
+  some = omega (arith, bounds .limits .l-least)
+
+  five : set .l ≤ 5
+  five = omega (arith, bounds .limits .l-most)
+
+  left-cell : (r c k y b : ℕ) → r < set .l → c < set .l → k < set .o → y < set .l → b < set .l
+      → mul 1 (getD lefts (((k * set .l + r) * set .l + y) * (set .l * 5) + c * 5 + b) 0)
+      ≡ sum 0 add (terms set) (λ alpha. mul (leftSide set abq left right sp i alpha k r y) (B set abq i alpha b c))
+  unfolding leftTerm transpose
+  left-cell r c k y b hr hc hk hy hb =
+      let place : ((k * set .l + r) * set .l + y) * (set .l * 5) + c * 5 + b ≡ ((k * set .l + r) * set .l + y) * (set .l * 5) + (c * 5 + b) = omega arith in
+      let row : (k * set .l + r) * set .l + y < set .o * set .l * set .l = digits-lt (digits-lt hk hr) hy in
+      let byte : c * 5 + b < set .l * 5 = omega arith in
+      ap (λ x. mul 1 (getD lefts x 0)) place
+      ∙ ap (mul 1) (left-rows .at ((k * set .l + r) * set .l + y) (c * 5 + b) row byte)
+      ∙ one-mul _ (sum-lt (terms set) (λ alpha h. mul-lt _ _))
+      ∙ sum-cong field-ring (terms set) (λ alpha h.
+      ap₂ mul
+      (ap₂ (λ u w. leftSide set abq left right sp i alpha (u / set .l) (u % set .l) w) (digits-div (k * set .l + r) hy) (digits-mod (k * set .l + r) hy)
+      ∙ ap₂ (λ u w. leftSide set abq left right sp i alpha u w y) (digits-div k hr) (digits-mod k hr))
+      (cell-at (set .l) (transpose (B set abq i alpha)) c b five hc hb))
+
+  right-cell : (r c q b : ℕ) → r < set .l → c < set .l → q < set .o * set .l → b < set .l
+      → mul 1 (getD rights ((q * set .l + c) * (set .l * 5) + r * 5 + b) 0)
+      ≡ sum 0 add (terms set) (λ alpha. mul (rightSide set abq left right sp i alpha (q / set .l) (q % set .l) c) (A set abq i alpha r b))
+  unfolding rightTerm
+  right-cell r c q b hr hc hq hb =
+      let place : (q * set .l + c) * (set .l * 5) + r * 5 + b ≡ (q * set .l + c) * (set .l * 5) + (r * 5 + b) = omega arith in
+      let row : q * set .l + c < set .o * set .l * set .l = digits-lt hq hc in
+      let byte : r * 5 + b < set .l * 5 = omega arith in
+      ap (λ x. mul 1 (getD rights x 0)) place
+      ∙ ap (mul 1) (right-rows .at (q * set .l + c) (r * 5 + b) row byte)
+      ∙ one-mul _ (sum-lt (terms set) (λ alpha h. mul-lt _ _))
+      ∙ sum-cong field-ring (terms set) (λ alpha h.
+      ap₂ mul
+      (ap₂ (λ u w. rightSide set abq left right sp i alpha (u / set .l) (u % set .l) w) (digits-div q hc) (digits-mod q hc))
+      (cell-at (set .l) (A set abq i alpha) r b five hr hb))
+
+  pub equation-rows : {d t : List ℕ} {at : ℕ} → PlusRows d at (set .l * set .l) (set .o * set .l * set .l + 1) (rowGain (set .l) (set .o) lefts rights) t
+      → PlusRows d at (set .l * set .l) (set .o * set .l * set .l + 1) (equationRow set abq left right sp i) t
+  unfolding rowGain cellGain termRow termCell
+  equation-rows p = rows-cong (λ e z he hz. by e z he hz) p
+    where
+      by : (e z : ℕ) → e < set .l * set .l → z < set .o * set .l * set .l + 1 → rowGain (set .l) (set .o) lefts rights e z ≡ equationRow set abq left right sp i e z
+      by e z he hz =
+          elim (decLt z (set .o * set .l * set .l)) [
+            | yes h ↦
+                let r = div-lt-iff-lt-mul some .1 he in
+                let c = mod-lt e some in
+                let b = mod-lt z some in
+                let q = div-lt-iff-lt-mul some .1 h in
+                let k = div-lt-iff-lt-mul some .1 q in
+                let y = mod-lt (z / set .l) some in
+                rw (lt-ltb z (set .o * set .l * set .l) h)
+                (ap₂ add
+                (left-cell (e / set .l) (e % set .l) (z / set .l / set .l) (z / set .l % set .l) (z % set .l) r c k y b)
+                (right-cell (e / set .l) (e % set .l) (z / set .l) (z % set .l) r c q b)
+                ∙ sym (sum-add field-ring (terms set) _ _))
+            | no h ↦
+                let past : set .o * set .l * set .l ≤ z = omega arith in
+                rw (le-ltb z (set .o * set .l * set .l) past) (sym (sum-zeros field-ring (terms set) (λ alpha m. refl)))
+          ]
 
 -- ---- the last column
 
@@ -203,26 +274,30 @@ built set abq target left right sums sp before {after = after} z p = record {
 
 -- ---- places
 
--- a term's blocks stand in the tables: those of the left and the right sums from a block row on that is at most the index's, and the powers of S
+-- the products of an equation's terms
+pub products-fit : {set : Set} → Bounds set → set .o * set .l * set .l * (set .l * 5) ≤ 3200
+products-fit {set} b =
+    let row : set .o * set .l * set .l ≤ 160 = omega (arith, b .limits .row) in
+    let width : set .l * 5 ≤ 20 = omega (arith, b .limits .l-most) in
+    omega (arith, mul-le-mul row width)
+
 pub record TermPlaces (set : Set) (index : ℕ) : Type 0 where
-  pub left : (row k x : ℕ) → row ≤ index * set .l → k < set .o → x < set .l
-      → (row + k * 0 + x * 1 + 1) * set .l * (set .o * set .l) ≤ set .o * (set .l * set .l) * (set .o * set .l)
+  pub left : (k x : ℕ) → k < set .o → x < set .l → (index * set .l + k * 0 + x * 1 + 1) * set .l * (set .o * set .l) ≤ set .o * (set .l * set .l) * (set .o * set .l)
   pub left-column : (k x : ℕ) → k < set .o → x < set .l → (k * 1 + x * 0 + 1) * set .l ≤ set .o * set .l
-  pub right : (row k x : ℕ) → row ≤ index * set .o → k < set .o → x < set .l
-      → (row + k * 1 + x * 0 + 1) * set .l * (set .l * set .l) ≤ set .o * (set .o * set .l) * (set .l * set .l)
+  pub right : (k x : ℕ) → k < set .o → x < set .l → (index * set .o + k * 1 + x * 0 + 1) * set .l * (set .l * set .l) ≤ set .o * (set .o * set .l) * (set .l * set .l)
   pub right-column : (k x : ℕ) → k < set .o → x < set .l → (k * 0 + x * 1 + 1) * set .l ≤ set .l * set .l
   pub powers : (x : ℕ) → x < set .l → (0 + x * 1 + 1) * set .l * set .l ≤ set .l * set .l * set .l
   pub power-column : (x : ℕ) → x < set .l → (0 + x * 0 + 1) * set .l ≤ set .l
 
 pub term-places : (set : Set) (index : ℕ) → index < set .o → TermPlaces set index
 term-places set index h = record {
-  left = λ row k x hr hk hx.
-      let rows : row + x + 1 ≤ set .o * set .l = omega (arith, digits-lt h hx) in
-      omega (arith, mul-le-mul-right (set .l * (set .o * set .l)) rows);
+  left = λ k x hk hx.
+      let row : index * set .l + x + 1 ≤ set .o * set .l = omega (arith, digits-lt h hx) in
+      omega (arith, mul-le-mul-right (set .l * (set .o * set .l)) row);
   left-column = λ k x hk hx. omega (arith, row-fits (set .l) hk);
-  right = λ row k x hr hk hx.
-      let rows : row + k + 1 ≤ set .o * set .o = omega (arith, digits-lt h hk) in
-      omega (arith, mul-le-mul-right (set .l * (set .l * set .l)) rows);
+  right = λ k x hk hx.
+      let row : index * set .o + k + 1 ≤ set .o * set .o = omega (arith, digits-lt h hk) in
+      omega (arith, mul-le-mul-right (set .l * (set .l * set .l)) row);
   right-column = λ k x hk hx. omega (arith, row-fits (set .l) hx);
   powers = λ x hx. omega (arith, mul-le-mul-right (set .l) (row-fits (set .l) hx));
   power-column = λ x hx. omega arith;

@@ -77,39 +77,79 @@ sides-filled {l} {count} small F q table w row down across L before z p = record
       all .at k (r * 5 + c) hk (omega arith) ∙ ap (mul 1) (cell-at l _ r c small hr hc) ∙ one-mul _ (mulM-lt l F _ r c);
 }
 
+-- ---- the products of the blocks' entries and a matrix
+
+-- row z = (k·l + r)·l + y: entry (r, y) of block k times the bytes of a block
+unfoldable pub outerRow : (l : ℕ) (sides m : List ℕ) → ℕ → ℕ → ℕ
+outerRow l sides m z e = mul (getD sides (z / l / l * 25 + (z / l % l * 5 + z % l)) 0) (getD m e 0)
+
+pub outer-row : (l : ℕ) (sides m : List ℕ) (z : ℕ) {d t : List ℕ} {at n : ℕ}
+    → Plus d at n (λ e. mul (getD sides (z / l / l * 25 + (z / l % l * 5 + z % l)) 0) (getD m (0 + e) 0)) t → Plus d at n (outerRow l sides m z) t
+unfolding outerRow
+outer-row l sides m z p = plus-cong (λ e h. ap (λ x. mul (getD sides (z / l / l * 25 + (z / l % l * 5 + z % l)) 0) (getD m x 0)) (zero-plus e)) p
+
 -- ---- what a row gains
 
--- unknown (k; y, b) of the row of entry (r, c): with q = k·l + y
-unfoldable pub cellGain : (l : ℕ) (lefts rights a bt : List ℕ) (r c : ℕ) → ℕ → ℕ → ℕ
-cellGain l lefts rights a bt r c q b =
-    add (mul (getD lefts (q / l * 25 + (r * 5 + q % l)) 0) (getD bt (c * 5 + b) 0))
-    (mul (getD rights (q / l * 25 + (q % l * 5 + c)) 0) (getD a (r * 5 + b) 0))
+-- unknown (k; y, b) of the row of entry (r, c), with q = k·l + y: from row (k, r, y) of the left products and row (k, y, c) of the right products
+unfoldable pub cellGain : (l : ℕ) (lefts rights : List ℕ) (r c : ℕ) → ℕ → ℕ → ℕ
+cellGain l lefts rights r c q b =
+    add (mul 1 (getD lefts (((q / l * l + r) * l + q % l) * (l * 5) + c * 5 + b) 0)) (mul 1 (getD rights ((q * l + c) * (l * 5) + r * 5 + b) 0))
 
-pub cell-row : (l : ℕ) (lefts rights a bt : List ℕ) (r c q : ℕ) {d t u : List ℕ} {at : ℕ}
-    → Plus d at l (λ b. mul (getD lefts (q / l * 25 + (r * 5 + q % l)) 0) (getD bt (c * 5 + b) 0)) t
-    → Plus t at l (λ b. mul (getD rights (q / l * 25 + (q % l * 5 + c)) 0) (getD a (r * 5 + b) 0)) u
-    → Plus d at l (cellGain l lefts rights a bt r c q) u
+pub cell-row : (l : ℕ) (lefts rights : List ℕ) (r c q : ℕ) {d t u : List ℕ} {at : ℕ}
+    → Plus d at l (λ b. mul 1 (getD lefts (((q / l * l + r) * l + q % l) * (l * 5) + c * 5 + b) 0)) t
+    → Plus t at l (λ b. mul 1 (getD rights ((q * l + c) * (l * 5) + r * 5 + b) 0)) u → Plus d at l (cellGain l lefts rights r c q) u
 unfolding cellGain
-cell-row l lefts rights a bt r c q p s = plus-then p s
+cell-row l lefts rights r c q p s = plus-then p s
 
 -- row e = r·l + c of an equation, column z: the unknowns, and nothing in the last column
-unfoldable pub rowGain : (l count : ℕ) (lefts rights a bt : List ℕ) → ℕ → ℕ → ℕ
-rowGain l count lefts rights a bt e z = pick (ltb z (count * l * l)) (cellGain l lefts rights a bt (e / l) (e % l) (z / l) (z % l)) 0
+unfoldable pub rowGain : (l count : ℕ) (lefts rights : List ℕ) → ℕ → ℕ → ℕ
+rowGain l count lefts rights e z = pick (ltb z (count * l * l)) (cellGain l lefts rights (e / l) (e % l) (z / l) (z % l)) 0
 
-pub row-widened : (l count : ℕ) (lefts rights a bt : List ℕ) (e : ℕ) {d t : List ℕ} {at : ℕ}
-    → PlusRows d at (count * l) l (cellGain l lefts rights a bt (e / l) (e % l)) t → Plus d at (count * l * l + 1) (rowGain l count lefts rights a bt e) t
+pub row-widened : (l count : ℕ) (lefts rights : List ℕ) (e : ℕ) {d t : List ℕ} {at : ℕ}
+    → PlusRows d at (count * l) l (cellGain l lefts rights (e / l) (e % l)) t → Plus d at (count * l * l + 1) (rowGain l count lefts rights e) t
 unfolding rowGain
-row-widened l count lefts rights a bt e p = widened (omega arith) (rows-plus p)
+row-widened l count lefts rights e p = widened (omega arith) (rows-plus p)
 
 -- ---- places
 
-pub record CellTurn (l count q : ℕ) : Type 0 where
-  pub row : q * l + l ≤ count * l * l
-  pub block : q / l * 25 + 25 ≤ count * 25
-  pub column : q % l < l
+pub record OuterTurn (l count z : ℕ) : Type 0 where
+  pub row : z * (l * 5) + l * 5 ≤ count * l * l * (l * 5)
+  pub block : z / l / l * 25 + 25 ≤ count * 25
+  pub high : z / l % l < l
+  pub low : z % l < l
+  pub plain : count * l * l ≤ count * l * l * (l * 5)
 
-pub cell-turn : (l count : ℕ) {q : ℕ} → 0 < l → q < count * l → CellTurn l count q
-cell-turn l count {q} hl h = record { row = row-fits l h; block = row-fits 25 (div-lt-iff-lt-mul hl .1 h); column = mod-lt q hl }
+pub outer-turn : (l count : ℕ) {z : ℕ} → 0 < l → z < count * l * l → OuterTurn l count z
+outer-turn l count {z} hl h =
+    let wide : 0 < l * 5 = omega arith in
+    record {
+      row = row-fits (l * 5) h;
+      block = row-fits 25 (div-lt-iff-lt-mul hl .1 (div-lt-iff-lt-mul hl .1 h));
+      high = mod-lt (z / l) hl;
+      low = mod-lt z hl;
+      plain = le-mul-of-pos-right (count * l * l) wide;
+    }
+
+pub record CellTurn (l count r c q : ℕ) : Type 0 where
+  pub row : q * l + l ≤ count * l * l
+  pub left : (q / l * l + r) * l + q % l < count * l * l
+  pub left-row : ((q / l * l + r) * l + q % l) * (l * 5) + l * 5 ≤ count * l * l * (l * 5)
+  pub left-first : q / l * l + r ≤ (q / l * l + r) * l
+  pub right-row : (q * l + c) * (l * 5) + l * 5 ≤ count * l * l * (l * 5)
+  pub plain : count * l * l ≤ count * l * l * (l * 5)
+
+pub cell-turn : (l count r c : ℕ) {q : ℕ} → 0 < l → r < l → c < l → q < count * l → CellTurn l count r c q
+cell-turn l count r c {q} hl hr hc h =
+    let wide : 0 < l * 5 = omega arith in
+    let left = digits-lt (digits-lt (div-lt-iff-lt-mul hl .1 h) hr) (mod-lt q hl) in
+    record {
+      row = row-fits l h;
+      left = left;
+      left-row = row-fits (l * 5) left;
+      left-first = le-mul-of-pos-right (q / l * l + r) hl;
+      right-row = row-fits (l * 5) (digits-lt h hc);
+      plain = le-mul-of-pos-right (count * l * l) wide;
+    }
 
 pub record RowTurn (l width e : ℕ) : Type 0 where
   pub row : e * width + width ≤ l * l * width

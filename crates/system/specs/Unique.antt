@@ -21,7 +21,7 @@ use Rattle.tables.specs.Gains.{blocksRow}
 use Rattle.system.specs.Products.{HasRows, productsRow, transposedGain, timesGain, rowsOf, leftGain}
 use Rattle.system.specs.Filled.{Stacked, LeftHolds, RightHolds, SumsHold}
 use Rattle.system.specs.Places.{table-sizes}
-use Rattle.system.specs.Sides.{Sides, combinedFrom, rowGain}
+use Rattle.system.specs.Sides.{Sides, combinedFrom, outerRow, rowGain}
 use Rattle.system.specs.Equation.{Built}
 
 -- ---- tables
@@ -103,9 +103,13 @@ pub unique-add-left : (d x stream : List ℕ) (at l v number count : ℕ) {t u :
     → PlusRows d at (l * l) (count * l) (leftGain l v x stream number count) t → PlusRows d at (l * l) (count * l) (leftGain l v x stream number count) u → t ≡ u
 unique-add-left d x stream at l v number count = rows-unique
 
-pub unique-add-rows : (d lefts rights a bt : List ℕ) (at l count : ℕ) {t u : List ℕ}
-    → PlusRows d at (l * l) (count * l * l + 1) (rowGain l count lefts rights a bt) t → PlusRows d at (l * l) (count * l * l + 1) (rowGain l count lefts rights a bt) u → t ≡ u
-unique-add-rows d lefts rights a bt at l count = rows-unique
+pub unique-add-outer : (d sides m : List ℕ) (l count : ℕ) {t u : List ℕ}
+    → PlusRows d 0 (count * l * l) (l * 5) (outerRow l sides m) t → PlusRows d 0 (count * l * l) (l * 5) (outerRow l sides m) u → t ≡ u
+unique-add-outer d sides m l count = rows-unique
+
+pub unique-add-rows : (d lefts rights : List ℕ) (at l count : ℕ) {t u : List ℕ}
+    → PlusRows d at (l * l) (count * l * l + 1) (rowGain l count lefts rights) t → PlusRows d at (l * l) (count * l * l + 1) (rowGain l count lefts rights) u → t ≡ u
+unique-add-rows d lefts rights at l count = rows-unique
 
 -- ---- a term's own buffers
 

@@ -9,9 +9,10 @@ ghost use Rattle.sets.specs.Bounds.{Bounds};
 ghost use Rattle.sets.specs.Sets.{abqBytes, targetBytes};
 ghost use Rattle.scheme.specs.Maps.{allInvertible};
 ghost use Rattle.terms.specs.Places.{Term};
-ghost use Rattle.system.specs.Equation.{termRow, equationRow, targetRow, Built};
+ghost use Rattle.system.specs.Equation.{leftTerm, rightTerm, equationRow, targetRow, Built};
 use super::blocks::STRIDE;
 use super::blocks::combined;
+use super::sides::add_outer;
 use super::sides::add_rows;
 use super::sides::fill_sides;
 use sets::Set;
@@ -19,10 +20,13 @@ use sets::Set;
 // Room for o blocks of 25 bytes.
 const SIDES: usize = 825;
 
-// The rows of equation i, from byte `at` on, gain what term alpha gives.
+// Room for o·l·l rows of l·5 bytes.
+const PRODUCTS: usize = 3200;
+
+// The left and the right products of equation i gain those of term alpha.
 fn add_term(
-    g: &mut [u8],
-    at: usize,
+    lefts: &mut [u8],
+    rights: &mut [u8],
     set: Set,
     abq: &[u8],
     left: &[u8],
@@ -33,10 +37,12 @@ fn add_term(
 )
     requires { ⌜ Term set i alpha ⌝ }
     requires { ⌜ (length (now abq) ≡ abqBytes set) × (allInvertible set (now abq) ≡ true) ⌝ }
-    requires { ⌜ (at + set .l * set .l * (set .o * set .l * set .l + 1) ≤ length (now g)) × ((set .o * (set .l * set .l) * (set .o * set .l) ≤ length (now left))
-        × ((set .o * (set .o * set .l) * (set .l * set .l) ≤ length (now right)) × (set .l * set .l * set .l ≤ length (now sp)))) ⌝ }
-    ensures { λ _. ⌜ PlusRows (now (g .entry)) at (set .l * set .l) (set .o * set .l * set .l + 1)
-        (termRow set (now (abq .entry)) (now (left .entry)) (now (right .entry)) (now (sp .entry)) i alpha) (now (g .exit)) ⌝ }
+    requires { ⌜ (set .o * set .l * set .l * (set .l * 5) ≤ length (now lefts)) × (set .o * set .l * set .l * (set .l * 5) ≤ length (now rights)) ⌝ }
+    requires { ⌜ (set .o * (set .l * set .l) * (set .o * set .l) ≤ length (now left)) × ((set .o * (set .o * set .l) * (set .l * set .l) ≤ length (now right)) × (set .l * set .l * set .l ≤ length (now sp))) ⌝ }
+    ensures { λ _. ⌜ PlusRows (now (lefts .entry)) 0 (set .o * set .l * set .l) (set .l * 5)
+        (leftTerm set (now (abq .entry)) (now (left .entry)) (now (right .entry)) (now (sp .entry)) i alpha) (now (lefts .exit)) ⌝ }
+    ensures { λ _. ⌜ PlusRows (now (rights .entry)) 0 (set .o * set .l * set .l) (set .l * 5)
+        (rightTerm set (now (abq .entry)) (now (left .entry)) (now (right .entry)) (now (sp .entry)) i alpha) (now (rights .exit)) ⌝ }
 {
     let l = set.l;
     let o = set.o;
@@ -49,9 +55,9 @@ fn add_term(
     let b = made_b.block;
     let q1 = combined(sp, l, l, 0, 0, 1, 0, abq, group1);
     let q2 = combined(sp, l, l, 0, 0, 1, 0, abq, group2);
-    let mut lefts = [0u8; SIDES];
+    let mut left_sides = [0u8; SIDES];
     fill_sides(
-        &mut lefts,
+        &mut left_sides,
         l,
         o,
         a,
@@ -64,9 +70,9 @@ fn add_term(
         abq,
         group1,
     );
-    let mut rights = [0u8; SIDES];
+    let mut right_sides = [0u8; SIDES];
     fill_sides(
-        &mut rights,
+        &mut right_sides,
         l,
         o,
         q1,
@@ -80,7 +86,8 @@ fn add_term(
         group2,
     );
     let bt = matrix::transposed(l, b);
-    add_rows(g, at, l, o, &lefts, &rights, &a, &bt);
+    add_outer(lefts, l, o, &left_sides, &bt);
+    add_outer(rights, l, o, &right_sides, &a);
 }
 
 // The rows of equation i, from byte `at` on, gain the sum over all terms.
@@ -96,25 +103,26 @@ fn add_equation(
 )
     requires { ⌜ Bounds set × (i < set .o) ⌝ }
     requires { ⌜ (length (now abq) ≡ abqBytes set) × (allInvertible set (now abq) ≡ true) ⌝ }
-    requires { ⌜ (at + set .l * set .l * (set .o * set .l * set .l + 1) ≤ length (now g)) × ((set .o * (set .l * set .l) * (set .o * set .l) ≤ length (now left))
-        × ((set .o * (set .o * set .l) * (set .l * set .l) ≤ length (now right)) × (set .l * set .l * set .l ≤ length (now sp)))) ⌝ }
+    requires { ⌜ (at + set .l * set .l * (set .o * set .l * set .l + 1) ≤ length (now g)) × ((set .o * (set .l * set .l) * (set .o * set .l) ≤ length (now left)) × ((set .o * (set .o * set .l) * (set .l * set .l) ≤ length (now right)) × (set .l * set .l * set .l ≤ length (now sp)))) ⌝ }
     ensures { λ _. ⌜ PlusRows (now (g .entry)) at (set .l * set .l) (set .o * set .l * set .l + 1)
         (equationRow set (now (abq .entry)) (now (left .entry)) (now (right .entry)) (now (sp .entry)) i) (now (g .exit)) ⌝ }
 {
     let count = terms::term_count(set);
+    let mut lefts = [0u8; PRODUCTS];
+    let mut rights = [0u8; PRODUCTS];
     let mut alpha = 0;
     while alpha < count {
-        add_term(g, at, set, abq, left, right, sp, i, alpha);
+        add_term(&mut lefts, &mut rights, set, abq, left, right, sp, i, alpha);
         alpha += 1;
     }
+    add_rows(g, at, set.l, set.o, &lefts, &rights);
 }
 
 // The last byte of each row of equation i, from byte `at` on, gains the vinegar part's entry and the target's.
 fn add_target(g: &mut [u8], at: usize, set: Set, abq: &[u8], sums: &[u8], target: &[u8], i: usize)
     requires { ⌜ Bounds set × (i < set .o) ⌝ }
     requires { ⌜ (length (now abq) ≡ abqBytes set) × (allInvertible set (now abq) ≡ true) ⌝ }
-    requires { ⌜ (at + set .l * set .l * (set .o * set .l * set .l + 1) ≤ length (now g)) × ((set .o * (set .l * set .l) * (set .l * set .l) ≤ length (now sums))
-        × (length (now target) ≡ targetBytes set)) ⌝ }
+    requires { ⌜ (at + set .l * set .l * (set .o * set .l * set .l + 1) ≤ length (now g)) × ((set .o * (set .l * set .l) * (set .l * set .l) ≤ length (now sums)) × (length (now target) ≡ targetBytes set)) ⌝ }
     ensures { λ _. ⌜ PlusRows (now (g .entry)) at (set .l * set .l) (set .o * set .l * set .l + 1)
         (targetRow set (now (abq .entry)) (now (sums .entry)) (now (target .entry)) i) (now (g .exit)) ⌝ }
 {
@@ -144,8 +152,7 @@ pub fn build(
 )
     requires { ⌜ Bounds set × (set .o * (set .l * set .l) * (set .o * set .l * set .l + 1) ≤ length (now g)) ⌝ }
     requires { ⌜ (length (now abq) ≡ abqBytes set) × ((allInvertible set (now abq) ≡ true) × (length (now target) ≡ targetBytes set)) ⌝ }
-    requires { ⌜ (set .o * (set .l * set .l) * (set .o * set .l) ≤ length (now left)) × ((set .o * (set .o * set .l) * (set .l * set .l) ≤ length (now right))
-        × ((set .l * set .l * set .l ≤ length (now sp)) × (set .o * (set .l * set .l) * (set .l * set .l) ≤ length (now sums)))) ⌝ }
+    requires { ⌜ (set .o * (set .l * set .l) * (set .o * set .l) ≤ length (now left)) × ((set .o * (set .o * set .l) * (set .l * set .l) ≤ length (now right)) × ((set .l * set .l * set .l ≤ length (now sp)) × (set .o * (set .l * set .l) * (set .l * set .l) ≤ length (now sums)))) ⌝ }
     ensures { λ _. ⌜ Built set (now (abq .entry)) (now (target .entry)) (now (left .entry)) (now (right .entry)) (now (sums .entry)) (now (sp .entry))
         (now (g .entry)) (now (g .exit)) ⌝ }
 {

@@ -1,4 +1,5 @@
-// What one term of an equation adds to its rows of the system: for each oil index k the blocks A·L·Q2 and Q1·R·B, 25 bytes each, and the rows made of them.
+// What the terms of an equation add to its rows of the system: for each oil index k the blocks A·L·Q2 and Q1·R·B, 25 bytes each; their entries times B and A,
+// added up over the terms; and the rows made of these products.
 ghost use mathlib.Core.Path.{_≡_};
 ghost use Prim.Native.Nat.{ℕ, _+_, _*_, _<_, _≤_};
 ghost use lib.ListN.{length};
@@ -6,7 +7,7 @@ ghost use Rattle.rows.specs.PlusRows.{PlusRows};
 ghost use Rattle.matrix.specs.Block.{view};
 ghost use Rattle.matrix.specs.RingElements.{coefficient};
 ghost use Rattle.scheme.specs.Streams.{groupOf};
-ghost use Rattle.system.specs.Sides.{Sides, sideOf, cellGain, rowGain};
+ghost use Rattle.system.specs.Sides.{Sides, sideOf, outerRow, cellGain, rowGain};
 use super::blocks::BYTES;
 use super::blocks::STRIDE;
 use super::blocks::combined;
@@ -56,8 +57,25 @@ pub fn fill_sides(
     }
 }
 
-// The row of entry (r, c) of an equation, from byte `at` on, gains what one term gives for the count·l·l unknowns: for unknown (k; y, b)
-// the entry (r, y) of the left block k times B(b, c), and the entry (y, c) of the right block k times A(r, b). bt is B transposed.
+// Row (k·l + r)·l + y of the products, in rows of l·5 bytes, gains the entry (r, y) of block k of the sides times the l rows of the block m.
+pub fn add_outer(products: &mut [u8], l: usize, count: usize, sides: &[u8], m: &[u8])
+    requires { ⌜ (0 < l) × ((l ≤ 5) × (count * l * l * (l * 5) ≤ length (now products))) ⌝ }
+    requires { ⌜ (count * 25 ≤ length (now sides)) × (25 ≤ length (now m)) ⌝ }
+    ensures { λ _. ⌜ PlusRows (now (products .entry)) 0 (count * l * l) (l * 5) (outerRow l (now (sides .entry)) (now (m .entry))) (now (products .exit)) ⌝ }
+{
+    let width = l * STRIDE;
+    let total = count * l * l;
+    let mut z = 0;
+    while z < total {
+        let k = z / l / l * BYTES;
+        let scalar = sides[k + (z / l % l * STRIDE + z % l)];
+        rows::add_scaled(products, z * width, m, 0, width, scalar);
+        z += 1;
+    }
+}
+
+// The row of entry (r, c) of an equation, from byte `at` on, gains for unknown (k; y, b) the byte (c, b) of row (k, r, y) of the left products
+// and the byte (r, b) of row (k, y, c) of the right products.
 fn add_row(
     g: &mut [u8],
     at: usize,
@@ -65,61 +83,37 @@ fn add_row(
     count: usize,
     lefts: &[u8],
     rights: &[u8],
-    a: &[u8],
-    bt: &[u8],
     r: usize,
     c: usize,
 )
     requires { ⌜ (at + count * l * l ≤ length (now g)) × ((r < l) × ((c < l) × (l ≤ 5))) ⌝ }
-    requires { ⌜ (count * 25 ≤ length (now lefts)) × ((count * 25 ≤ length (now rights)) × ((25 ≤ length (now a)) × (25 ≤ length (now bt)))) ⌝ }
-    ensures { λ _. ⌜ PlusRows (now (g .entry)) at (count * l) l
-        (cellGain l (now (lefts .entry)) (now (rights .entry)) (now (a .entry)) (now (bt .entry)) r c) (now (g .exit)) ⌝ }
+    requires { ⌜ (count * l * l * (l * 5) ≤ length (now lefts)) × (count * l * l * (l * 5) ≤ length (now rights)) ⌝ }
+    ensures { λ _. ⌜ PlusRows (now (g .entry)) at (count * l) l (cellGain l (now (lefts .entry)) (now (rights .entry)) r c) (now (g .exit)) ⌝ }
 {
+    let width = l * STRIDE;
     let total = count * l;
     let mut q = 0;
     while q < total {
-        let k = q / l * BYTES;
-        let y = q % l;
-        let left = lefts[k + (r * STRIDE + y)];
-        let right = rights[k + (y * STRIDE + c)];
-        rows::add_scaled(g, at + q * l, bt, c * STRIDE, l, left);
-        rows::add_scaled(g, at + q * l, a, r * STRIDE, l, right);
+        let left = (q / l * l + r) * l + q % l;
+        let right = q * l + c;
+        rows::add_scaled(g, at + q * l, lefts, left * width + c * STRIDE, l, 1);
+        rows::add_scaled(g, at + q * l, rights, right * width + r * STRIDE, l, 1);
         q += 1;
     }
 }
 
-// The l·l rows of one equation, in rows of count·l·l + 1 bytes from byte `at` on, gain what one term gives. The last byte of each row stays.
-pub fn add_rows(
-    g: &mut [u8],
-    at: usize,
-    l: usize,
-    count: usize,
-    lefts: &[u8],
-    rights: &[u8],
-    a: &[u8],
-    bt: &[u8],
-)
+// The l·l rows of one equation, in rows of count·l·l + 1 bytes from byte `at` on, gain what the products of all its terms give. The last byte of each row stays.
+pub fn add_rows(g: &mut [u8], at: usize, l: usize, count: usize, lefts: &[u8], rights: &[u8])
     requires { ⌜ (at + l * l * (count * l * l + 1) ≤ length (now g)) × ((0 < l) × ((l ≤ 5) × (count * l * l < 1000))) ⌝ }
-    requires { ⌜ (count * 25 ≤ length (now lefts)) × ((count * 25 ≤ length (now rights)) × ((25 ≤ length (now a)) × (25 ≤ length (now bt)))) ⌝ }
+    requires { ⌜ (count * l * l * (l * 5) ≤ length (now lefts)) × (count * l * l * (l * 5) ≤ length (now rights)) ⌝ }
     ensures { λ _. ⌜ PlusRows (now (g .entry)) at (l * l) (count * l * l + 1)
-        (rowGain l count (now (lefts .entry)) (now (rights .entry)) (now (a .entry)) (now (bt .entry))) (now (g .exit)) ⌝ }
+        (rowGain l count (now (lefts .entry)) (now (rights .entry))) (now (g .exit)) ⌝ }
 {
     let width = count * l * l + 1;
     let total = l * l;
     let mut e = 0;
     while e < total {
-        add_row(
-            g,
-            at + e * width,
-            l,
-            count,
-            lefts,
-            rights,
-            a,
-            bt,
-            e / l,
-            e % l,
-        );
+        add_row(g, at + e * width, l, count, lefts, rights, e / l, e % l);
         e += 1;
     }
 }

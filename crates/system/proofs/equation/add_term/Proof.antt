@@ -1,4 +1,4 @@
--- `system::equation::add_term` meets its contract: the parts stand at their numbers, and the rows made of them are the term's (`term-rows`).
+-- `system::equation::add_term` meets its contract: the parts stand at their numbers, and the products made of them are the term's (`left-products`, `right-products`).
 -- Rests on Equation, and on terms' places of A, B and the groups of coefficients.
 use mathlib.Core.Path.{_≡_, sym, ap, _∙_}
 use Prim.Native.Nat.{ℕ, _+_, _*_, _<_, _≤_}
@@ -13,7 +13,7 @@ use Rattle.scheme.specs.Streams.{groupOf, A}
 use Rattle.terms.specs.Places.{size-allowed, a-within, b-within, q1-within, q2-within, index-lt, block-within, group-within}
 use Rattle.terms.specs.Adding.{a-is, b-is}
 use Rattle.system.specs.Places.{table-sizes}
-use Rattle.system.specs.Equation.{term-rows, TermPlaces, term-places}
+use Rattle.system.specs.Equation.{left-products, right-products, TermPlaces, term-places}
 use borrow.Author.Needs.{needs}
 use native.Mathlib.Omega.{arith}
 use Rattle.system.proofs.equation.add_term.Statement.{statement}
@@ -22,7 +22,7 @@ use Rattle.system.proofs.equation.add_term.Tie as tie
 -- ---- what is known once the numbers are there and A and B are read
 
 abbrev start : tie.After-b → tie.Start
-start c = c .before .before .before .before .before .before .before .before .before .before .before .before .before .before
+start c = c .before .before .before .before .before .before .before .before .before .before .before .before .before .before .before
 
 abbrev made-a : tie.After-b → tie.After-invertible-at
 made-a c = c .before .before .before .before .before .before .before
@@ -55,15 +55,6 @@ powers : (c : tie.After-b) (x : ℕ) → x < start c .args .set .l
     → ((0 + x * 1 + 1) * start c .args .set .l * start c .args .set .l ≤ length (start c .args .sp .now)) × ((0 + x * 0 + 1) * start c .args .set .l ≤ start c .args .set .l)
 powers c x h = (omega (arith, places c .powers x h, start c .pre .1 .1 .1 .1 .1), places c .power-column x h)
 
--- and the blocks of the left and the right sums in theirs, from a block row on
-left-block : (c : tie.After-b) (row k x : ℕ) → row ≤ index c * start c .args .set .l → k < start c .args .set .o → x < start c .args .set .l
-    → (row + k * 0 + x * 1 + 1) * start c .args .set .l * (start c .args .set .o * start c .args .set .l) ≤ length (start c .args .left .now)
-left-block c row k x hr hk hx = omega (arith, places c .left row k x hr hk hx, start c .pre .1 .1 .1 .0)
-
-right-block : (c : tie.After-b) (row k x : ℕ) → row ≤ index c * start c .args .set .o → k < start c .args .set .o → x < start c .args .set .l
-    → (row + k * 1 + x * 0 + 1) * start c .args .set .l * (start c .args .set .l * start c .args .set .l) ≤ length (start c .args .right .now)
-right-block c row k x hr hk hx = omega (arith, places c .right row k x hr hk hx, start c .pre .1 .1 .1 .1 .0)
-
 small : (c : tie.After-b) → start c .args .set .l ≤ 5
 small c = omega (arith, start c .pre .0 .bounds .limits .l-most)
 
@@ -92,31 +83,31 @@ bt-long c =
 -- ---- the needs
 
 a-number-requires : tie.Need-a-number-requires
-a-number-requires c κs = c .before .before .before .before .before .pre .0
+a-number-requires c κs = c .before .before .before .before .before .before .pre .0
 
 invertible-at-requires : tie.Need-invertible-at-requires
 invertible-at-requires c κs =
-    let s = c .before .before .before .before .before .before in
+    let s = c .before .before .before .before .before .before .before in
     let within : c .a-number .result < 2 * (s .args .set .o * terms (s .args .set)) = omega (arith, a-within (s .pre .0), c .a-number .ensures) in
     (size-allowed (s .pre .0 .bounds .limits), block-within (s .pre .0 .bounds) (s .args .abq .now) (s .pre .1 .0 .0) within)
 
 b-number-requires : tie.Need-b-number-requires
-b-number-requires c κs = c .before .before .before .before .before .before .before .pre .0
+b-number-requires c κs = c .before .before .before .before .before .before .before .before .pre .0
 
 invertible-at-requires-2 : tie.Need-invertible-at-requires-2
 invertible-at-requires-2 c κs =
-    let s = c .before .before .before .before .before .before .before .before in
+    let s = c .before .before .before .before .before .before .before .before .before in
     let within : c .b-number .result < 2 * (s .args .set .o * terms (s .args .set)) = omega (arith, b-within (s .pre .0), c .b-number .ensures) in
     (size-allowed (s .pre .0 .bounds .limits), block-within (s .pre .0 .bounds) (s .args .abq .now) (s .pre .1 .0 .0) within)
 
 matrix-index-requires : tie.Need-matrix-index-requires
-matrix-index-requires c κs = c .before .before .before .before .before .before .before .before .before .pre .0
+matrix-index-requires c κs = c .before .before .before .before .before .before .before .before .before .before .pre .0
 
 q1-number-requires : tie.Need-q1-number-requires
-q1-number-requires c κs = c .before .before .before .before .before .before .before .before .before .before .pre .0
+q1-number-requires c κs = c .before .before .before .before .before .before .before .before .before .before .before .pre .0
 
 q2-number-requires : tie.Need-q2-number-requires
-q2-number-requires c κs = c .before .before .before .before .before .before .before .before .before .before .before .pre .0
+q2-number-requires c κs = c .before .before .before .before .before .before .before .before .before .before .before .before .pre .0
 
 combined-requires : tie.Need-combined-requires
 combined-requires c κs = ((small c, group1 c), powers c)
@@ -141,7 +132,7 @@ fill-sides-requires c κs =
     let s = start known in
     let limits = s .pre .0 .bounds .limits in (
       (omega (arith, limits .l-least), (small known, (group1 known, omega (arith, limits .o-most, length-zeros 825)))),
-      λ k x hk hx. (left-block known _ k x (omega arith) hk hx, places known .left-column k x hk hx),
+      λ k x hk hx. (omega (arith, places known .left k x hk hx, s .pre .1 .1 .1 .0), places known .left-column k x hk hx),
     )
 
 slice-aggregate-fill-sides-2 : tie.Need-slice-aggregate-fill-sides-2
@@ -161,53 +152,64 @@ fill-sides-requires-2 c κs =
     let s = start known in
     let limits = s .pre .0 .bounds .limits in (
       (omega (arith, limits .l-least), (small known, (group2 known, omega (arith, limits .o-most, length-zeros 825)))),
-      λ k x hk hx. (right-block known _ k x (omega arith) hk hx, places known .right-column k x hk hx),
+      λ k x hk hx. (omega (arith, places known .right k x hk hx, s .pre .1 .1 .1 .1 .0), places known .right-column k x hk hx),
     )
 
-slice-aggregate-add-rows : tie.Need-slice-aggregate-add-rows
-slice-aggregate-add-rows c = search needs
+slice-aggregate-add-outer : tie.Need-slice-aggregate-add-outer
+slice-aggregate-add-outer c = search needs
 
-slice-aggregate-add-rows-2 : tie.Need-slice-aggregate-add-rows-2
-slice-aggregate-add-rows-2 c = search needs
+slice-aggregate-add-outer-2 : tie.Need-slice-aggregate-add-outer-2
+slice-aggregate-add-outer-2 c = search needs
 
-slice-aggregate-add-rows-3 : tie.Need-slice-aggregate-add-rows-3
-slice-aggregate-add-rows-3 c = sym (a-size (c .before .before .before .before .before .before .before .before .before .before .before .before .before))
-
-slice-aggregate-add-rows-4 : tie.Need-slice-aggregate-add-rows-4
-slice-aggregate-add-rows-4 c = search needs
-
-add-rows-requires : tie.Need-add-rows-requires
-add-rows-requires c κs =
-    let known = c .before .before .before .before .before .before .before .before .before .before .before .before .before .before in
+add-outer-requires : tie.Need-add-outer-requires
+add-outer-requires c κs =
+    let known = c .before .before .before .before .before .before .before .before .before .before .before .before in
     let s = start known in
     let limits = s .pre .0 .bounds .limits in (
-      (s .pre .1 .1 .0, (omega (arith, limits .l-least), (small known, omega (arith, table-sizes (s .pre .0 .bounds) .oll)))),
-      (
-        omega (arith, limits .o-most, length-zeros 825, c .before .before .before .before .before .before .before .before .before .before .fill-sides .kept .0),
-        (
-          omega (arith, limits .o-most, length-zeros 825, c .before .before .before .before .before .before .before .fill-sides2 .kept .0),
-          (a-long known, bt-long (c .before .before .before .before .before)),
-        ),
-      ),
+      (omega (arith, limits .l-least), (small known, s .pre .1 .1 .0 .0)),
+      (omega (arith, limits .o-most, length-zeros 825, c .before .before .before .before .before .before .before .before .fill-sides .kept .0), bt-long (c .before .before .before)),
+    )
+
+slice-aggregate-add-outer-3 : tie.Need-slice-aggregate-add-outer-3
+slice-aggregate-add-outer-3 c = search needs
+
+slice-aggregate-add-outer-4 : tie.Need-slice-aggregate-add-outer-4
+slice-aggregate-add-outer-4 c = sym (a-size (c .before .before .before .before .before .before .before .before .before .before .before .before .before .before .before .before .before .before))
+
+add-outer-requires-2 : tie.Need-add-outer-requires-2
+add-outer-requires-2 c κs =
+    let known = c .before .before .before .before .before .before .before .before .before .before .before .before .before .before .before .before .before .before in
+    let s = start known in
+    let limits = s .pre .0 .bounds .limits in (
+      (omega (arith, limits .l-least), (small known, s .pre .1 .1 .0 .1)),
+      (omega (arith, limits .o-most, length-zeros 825, c .before .before .before .before .before .before .before .before .before .before .before .fill-sides2 .kept .0), a-long known),
     )
 
 same-length : tie.Need-same-length
 same-length c = search needs
 
+same-length-2 : tie.Need-same-length-2
+same-length-2 c = search needs
+
 returns : tie.Need-returns
 returns c =
-    let rights = c .before .before .before .before .before .before .before .before .before .before in
+    let rights = c .before .before .before .before .before .before .before .before .before .before .before .before .before .before in
     let lefts = rights .before .before .before in
     let known = lefts .before .before .before .before in
     let s = start known in
     let a = s .args in
     let q : ℕ → ℕ → ℕ = λ n. coefficient (a .set .l) (groupOf (a .set .l) (a .abq .now) n) in
-    term-rows (s .pre .0) (a .abq .now) (a .left .now) (a .right .now) (a .sp .now) (known .before .before .before .before .matrix-index .ensures)
-    (ap q (known .before .before .before .q1-number .ensures)) (ap q (known .before .before .q2-number .ensures)) (a-block known)
-    (b-is (s .pre .0) (a .abq .now) (s .pre .1 .0 .1) (made-b known .before .b-number .ensures) (made-b known .invertible-at2 .ensures))
-    (c .before .before .before .before .before .before .before .before .transposed .ensures)
-    (lefts .before .before .before .combined .ensures) (lefts .before .before .combined2 .ensures)
-    (lefts .fill-sides .ensures .0) (rights .fill-sides2 .ensures .0) (c .before .before .add-rows .ensures)
+    let index-is = known .before .before .before .before .matrix-index .ensures in
+    let g1-is = ap q (known .before .before .before .q1-number .ensures) in
+    let g2-is = ap q (known .before .before .q2-number .ensures) in
+    let b-block = b-is (s .pre .0) (a .abq .now) (s .pre .1 .0 .1) (made-b known .before .b-number .ensures) (made-b known .invertible-at2 .ensures) in
+    let q1-is = lefts .before .before .before .combined .ensures in
+    let q2-is = lefts .before .before .combined2 .ensures in (
+      left-products (s .pre .0) (a .abq .now) (a .left .now) (a .right .now) (a .sp .now) index-is g1-is g2-is (a-block known) b-block q1-is q2-is
+          (c .before .before .before .before .before .before .before .before .before .before .before .before .transposed .ensures) (lefts .fill-sides .ensures .0) (c .before .before .before .before .before .before .before .before .add-outer .ensures),
+      right-products (s .pre .0) (a .abq .now) (a .left .now) (a .right .now) (a .sp .now) index-is g1-is g2-is (a-block known) b-block q1-is q2-is
+          (rights .fill-sides2 .ensures .0) (c .before .before .add-outer2 .ensures),
+    )
 
 pub add-term-spec : {M : Type 1} → statement M
 add-term-spec =
@@ -231,10 +233,12 @@ add-term-spec =
     mul-fill-sides-4
     fill-sides-requires-2
     (λ _ _. tt)
-    slice-aggregate-add-rows
-    slice-aggregate-add-rows-2
-    slice-aggregate-add-rows-3
-    slice-aggregate-add-rows-4
-    add-rows-requires
+    slice-aggregate-add-outer
+    slice-aggregate-add-outer-2
+    add-outer-requires
+    slice-aggregate-add-outer-3
+    slice-aggregate-add-outer-4
+    add-outer-requires-2
     same-length
+    same-length-2
     returns)

@@ -9,35 +9,34 @@ use Rattle.system.proofs.sides.add_row.Statement.{statement}
 use Rattle.system.proofs.sides.add_row.Tie as tie
 
 abbrev Inv-loop : tie.InvT-loop
-Inv-loop g₀ at l count lefts rights a bt r c total q₀ g q = Adding g₀ at (count * l) l (cellGain l lefts rights a bt r c) q g
+Inv-loop g₀ at l count lefts rights r c width total q₀ g q = Adding g₀ at (count * l) l (cellGain l lefts rights r c) q g
 
 abbrev μ-loop : tie.MeasureT-loop
-μ-loop g₀ at l count lefts rights a bt r c total q₀ g q = total - q
+μ-loop g₀ at l count lefts rights r c width total q₀ g q = total - q
 
 abbrev start : tie.In-loop Inv-loop μ-loop → tie.Start Inv-loop μ-loop
-start c = c .before .before .before .before .before .before .before
+start c = c .before .before .before .before .before
 
 -- where part q reads and writes
-turn : (c : tie.In-loop Inv-loop μ-loop) → CellTurn (start c .args .l) (start c .args .count) (c .before .loop .q)
-turn c = cell-turn (start c .args .l) (start c .args .count) (omega (arith, start c .pre .0 .1 .0)) (c .loop-test .taken)
+turn : (c : tie.In-loop Inv-loop μ-loop) → CellTurn (start c .args .l) (start c .args .count) (start c .args .r) (start c .args .c) (c .before .loop .q)
+turn c =
+    let s = start c in
+    cell-turn (s .args .l) (s .args .count) (s .args .r) (s .args .c) (omega (arith, s .pre .0 .1 .0)) (s .pre .0 .1 .0) (s .pre .0 .1 .1 .0) (c .loop-test .taken)
+
+mul-width : tie.Need-mul-width Inv-loop μ-loop
+mul-width c = omega (arith, c .before .before .before .pre .0 .1 .1 .1)
 
 mul-total : tie.Need-mul-total Inv-loop μ-loop
 mul-total c =
-    let s = c .before .before .before .before .before in
+    let s = c .before .before .before in
     let positive : 0 < s .args .l = omega (arith, s .pre .0 .1 .0) in
     omega (arith, s .pre .0 .0, le-mul-of-pos-right (s .args .count * s .args .l) positive)
 
 loop-holds : tie.Need-loop-holds Inv-loop μ-loop
 loop-holds c = adding-none
 
-div-k : tie.Need-div-k Inv-loop μ-loop
-div-k c = omega (arith, turn c)
-
-mul-k : tie.Need-mul-k Inv-loop μ-loop
-mul-k c = omega (arith, turn c, start c .pre)
-
-rem-y : tie.Need-rem-y Inv-loop μ-loop
-rem-y c = omega (arith, turn c)
+div-left : tie.Need-div-left Inv-loop μ-loop
+div-left c = omega (arith, start c .pre .0 .1 .0)
 
 mul-left : tie.Need-mul-left Inv-loop μ-loop
 mul-left c = omega (arith, turn c, start c .pre)
@@ -45,66 +44,75 @@ mul-left c = omega (arith, turn c, start c .pre)
 add-left : tie.Need-add-left Inv-loop μ-loop
 add-left c = omega (arith, turn c, start c .pre)
 
+mul-left-2 : tie.Need-mul-left-2 Inv-loop μ-loop
+mul-left-2 c = omega (arith, turn c, start c .pre)
+
+rem-left : tie.Need-rem-left Inv-loop μ-loop
+rem-left c = omega (arith, start c .pre .0 .1 .0)
+
 add-left-2 : tie.Need-add-left-2 Inv-loop μ-loop
 add-left-2 c = omega (arith, turn c, start c .pre)
 
-shared-slice-read-left : tie.Need-shared-slice-read-left Inv-loop μ-loop
-shared-slice-read-left c = omega (arith, turn (c .before), start (c .before) .pre)
-
 mul-right : tie.Need-mul-right Inv-loop μ-loop
-mul-right c = omega (arith, turn (c .before), start (c .before) .pre)
+mul-right c = omega (arith, turn c, start c .pre)
 
 add-right : tie.Need-add-right Inv-loop μ-loop
-add-right c = omega (arith, turn (c .before), start (c .before) .pre)
-
-add-right-2 : tie.Need-add-right-2 Inv-loop μ-loop
-add-right-2 c = omega (arith, turn (c .before), start (c .before) .pre)
-
-shared-slice-read-right : tie.Need-shared-slice-read-right Inv-loop μ-loop
-shared-slice-read-right c = omega (arith, turn (c .before .before), start (c .before .before) .pre)
+add-right c = omega (arith, turn c, start c .pre)
 
 mul-add-scaled : tie.Need-mul-add-scaled Inv-loop μ-loop
-mul-add-scaled c = omega (arith, turn (c .before .before .before), start (c .before .before .before) .pre)
+mul-add-scaled c = omega (arith, turn (c .before), start (c .before) .pre)
 
 add-add-scaled : tie.Need-add-add-scaled Inv-loop μ-loop
-add-add-scaled c = omega (arith, turn (c .before .before .before), start (c .before .before .before) .pre)
+add-add-scaled c = omega (arith, turn (c .before), start (c .before) .pre)
 
 mul-add-scaled-2 : tie.Need-mul-add-scaled-2 Inv-loop μ-loop
-mul-add-scaled-2 c = omega (arith, start (c .before .before .before) .pre)
+mul-add-scaled-2 c = omega (arith, turn (c .before), start (c .before) .pre)
+
+mul-add-scaled-3 : tie.Need-mul-add-scaled-3 Inv-loop μ-loop
+mul-add-scaled-3 c = omega (arith, start (c .before) .pre)
+
+add-add-scaled-2 : tie.Need-add-add-scaled-2 Inv-loop μ-loop
+add-add-scaled-2 c = omega (arith, turn (c .before), start (c .before) .pre)
 
 add-scaled-requires : tie.Need-add-scaled-requires Inv-loop μ-loop
 add-scaled-requires c κs =
-    let now = c .before .before .before in
+    let now = c .before in
     omega (arith, turn now, start now .pre, now .before .loop .inv .so-far .long)
 
-mul-add-scaled-3 : tie.Need-mul-add-scaled-3 Inv-loop μ-loop
-mul-add-scaled-3 c = omega (arith, turn (c .before .before .before .before .before .before .before), start (c .before .before .before .before .before .before .before) .pre)
-
-add-add-scaled-2 : tie.Need-add-add-scaled-2 Inv-loop μ-loop
-add-add-scaled-2 c = omega (arith, turn (c .before .before .before .before .before .before .before), start (c .before .before .before .before .before .before .before) .pre)
-
 mul-add-scaled-4 : tie.Need-mul-add-scaled-4 Inv-loop μ-loop
-mul-add-scaled-4 c = omega (arith, start (c .before .before .before .before .before .before .before) .pre)
+mul-add-scaled-4 c = omega (arith, turn (c .before .before .before .before .before), start (c .before .before .before .before .before) .pre)
+
+add-add-scaled-3 : tie.Need-add-add-scaled-3 Inv-loop μ-loop
+add-add-scaled-3 c = omega (arith, turn (c .before .before .before .before .before), start (c .before .before .before .before .before) .pre)
+
+mul-add-scaled-5 : tie.Need-mul-add-scaled-5 Inv-loop μ-loop
+mul-add-scaled-5 c = omega (arith, turn (c .before .before .before .before .before), start (c .before .before .before .before .before) .pre)
+
+mul-add-scaled-6 : tie.Need-mul-add-scaled-6 Inv-loop μ-loop
+mul-add-scaled-6 c = omega (arith, start (c .before .before .before .before .before) .pre)
+
+add-add-scaled-4 : tie.Need-add-add-scaled-4 Inv-loop μ-loop
+add-add-scaled-4 c = omega (arith, turn (c .before .before .before .before .before), start (c .before .before .before .before .before) .pre)
 
 add-scaled-requires-2 : tie.Need-add-scaled-requires-2 Inv-loop μ-loop
 add-scaled-requires-2 c κs =
-    let now = c .before .before .before .before .before .before .before in
+    let now = c .before .before .before .before .before in
     omega (arith, turn now, start now .pre, now .before .loop .inv .so-far .long, c .before .before .before .add-scaled .kept .0)
 
 add-q : tie.Need-add-q Inv-loop μ-loop
 add-q c =
-    let now = c .before .before .before .before .before .before .before .before .before .before in
+    let now = c .before .before .before .before .before .before .before .before in
     omega (arith, now .loop-test .taken, mul-total (now .before .before))
 
 loop-less : tie.Need-loop-less Inv-loop μ-loop
-loop-less c = omega (arith, c .before .before .before .before .before .before .before .before .before .before .loop-test .taken)
+loop-less c = omega (arith, c .before .before .before .before .before .before .before .before .loop-test .taken)
 
 loop-again : tie.Need-loop-again Inv-loop μ-loop
 loop-again c =
-    let now = c .before .before .before .before .before .before .before .before .before .before in
+    let now = c .before .before .before .before .before .before .before .before in
     let a = start now .args in
     adding-next (now .before .loop .inv) (now .loop-test .taken)
-    (cell-row (a .l) (a .lefts .now) (a .rights .now) (a .a .now) (a .bt .now) (a .r) (a .c) (now .before .loop .q)
+    (cell-row (a .l) (a .lefts .now) (a .rights .now) (a .r) (a .c) (now .before .loop .q)
     (c .before .before .before .before .before .before .add-scaled .ensures) (c .before .before .add-scaled2 .ensures))
 
 same-length : tie.Need-same-length Inv-loop μ-loop
@@ -119,26 +127,28 @@ add-row-spec =
     (tie.spec
     Inv-loop
     μ-loop
+    mul-width
     mul-total
     loop-holds
-    div-k
-    mul-k
-    rem-y
+    div-left
     mul-left
     add-left
+    mul-left-2
+    rem-left
     add-left-2
-    shared-slice-read-left
     mul-right
     add-right
-    add-right-2
-    shared-slice-read-right
     mul-add-scaled
     add-add-scaled
     mul-add-scaled-2
-    add-scaled-requires
     mul-add-scaled-3
     add-add-scaled-2
+    add-scaled-requires
     mul-add-scaled-4
+    add-add-scaled-3
+    mul-add-scaled-5
+    mul-add-scaled-6
+    add-add-scaled-4
     add-scaled-requires-2
     add-q
     loop-less

@@ -9,13 +9,13 @@ use Rattle.system.proofs.sides.add_rows.Statement.{statement}
 use Rattle.system.proofs.sides.add_rows.Tie as tie
 
 abbrev Inv-loop : tie.InvT-loop
-Inv-loop g₀ at l count lefts rights a bt width total e₀ g e = Adding g₀ at (l * l) (count * l * l + 1) (rowGain l count lefts rights a bt) e g
+Inv-loop g₀ at l count lefts rights width total e₀ g e = Adding g₀ at (l * l) (count * l * l + 1) (rowGain l count lefts rights) e g
 
 abbrev μ-loop : tie.MeasureT-loop
-μ-loop g₀ at l count lefts rights a bt width total e₀ g e = total - e
+μ-loop g₀ at l count lefts rights width total e₀ g e = total - e
 
 abbrev start : tie.In-loop Inv-loop μ-loop → tie.Start Inv-loop μ-loop
-start c = c .before .before .before .before .before .before .before
+start c = c .before .before .before .before .before
 
 -- where row e stands
 turn : (c : tie.In-loop Inv-loop μ-loop) → RowTurn (start c .args .l) (start c .args .count * start c .args .l * start c .args .l + 1) (c .before .loop .e)
@@ -25,18 +25,18 @@ turn c =
 
 mul-width : tie.Need-mul-width Inv-loop μ-loop
 mul-width c =
-    let s = c .before .before .before .before .before in
+    let s = c .before .before .before in
     omega (arith, le-mul-of-pos-right (s .args .count * s .args .l) (s .pre .0 .1 .0), s .pre .0 .1 .1 .1)
 
 mul-width-2 : tie.Need-mul-width-2 Inv-loop μ-loop
-mul-width-2 c = omega (arith, c .before .before .before .before .before .pre .0 .1 .1 .1)
+mul-width-2 c = omega (arith, c .before .before .before .pre .0 .1 .1 .1)
 
 add-width : tie.Need-add-width Inv-loop μ-loop
-add-width c = omega (arith, c .before .before .before .before .before .pre .0 .1 .1 .1)
+add-width c = omega (arith, c .before .before .before .pre .0 .1 .1 .1)
 
 mul-total : tie.Need-mul-total Inv-loop μ-loop
 mul-total c =
-    let small = c .before .before .before .before .before .pre .0 .1 .1 .0 in
+    let small = c .before .before .before .pre .0 .1 .1 .0 in
     omega (arith, mul-le-mul small small)
 
 loop-holds : tie.Need-loop-holds Inv-loop μ-loop
@@ -72,7 +72,7 @@ loop-again c =
     let now = c .before .before .before .before in
     let a = start now .args in
     adding-next (now .before .loop .inv) (now .loop-test .taken)
-    (row-widened (a .l) (a .count) (a .lefts .now) (a .rights .now) (a .a .now) (a .bt .now) (now .before .loop .e) (c .before .before .add-row .ensures))
+    (row-widened (a .l) (a .count) (a .lefts .now) (a .rights .now) (now .before .loop .e) (c .before .before .add-row .ensures))
 
 same-length : tie.Need-same-length Inv-loop μ-loop
 same-length c = search needs
