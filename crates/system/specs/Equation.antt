@@ -282,22 +282,24 @@ products-fit {set} b =
     omega (arith, mul-le-mul row width)
 
 pub record TermPlaces (set : Set) (index : ℕ) : Type 0 where
-  pub left : (k x : ℕ) → k < set .o → x < set .l → (index * set .l + k * 0 + x * 1 + 1) * set .l * (set .o * set .l) ≤ set .o * (set .l * set .l) * (set .o * set .l)
+  pub left : (row k x : ℕ) → row ≤ index * set .l → k < set .o → x < set .l
+      → (row + k * 0 + x * 1 + 1) * set .l * (set .o * set .l) ≤ set .o * (set .l * set .l) * (set .o * set .l)
   pub left-column : (k x : ℕ) → k < set .o → x < set .l → (k * 1 + x * 0 + 1) * set .l ≤ set .o * set .l
-  pub right : (k x : ℕ) → k < set .o → x < set .l → (index * set .o + k * 1 + x * 0 + 1) * set .l * (set .l * set .l) ≤ set .o * (set .o * set .l) * (set .l * set .l)
+  pub right : (row k x : ℕ) → row ≤ index * set .o → k < set .o → x < set .l
+      → (row + k * 1 + x * 0 + 1) * set .l * (set .l * set .l) ≤ set .o * (set .o * set .l) * (set .l * set .l)
   pub right-column : (k x : ℕ) → k < set .o → x < set .l → (k * 0 + x * 1 + 1) * set .l ≤ set .l * set .l
   pub powers : (x : ℕ) → x < set .l → (0 + x * 1 + 1) * set .l * set .l ≤ set .l * set .l * set .l
   pub power-column : (x : ℕ) → x < set .l → (0 + x * 0 + 1) * set .l ≤ set .l
 
 pub term-places : (set : Set) (index : ℕ) → index < set .o → TermPlaces set index
 term-places set index h = record {
-  left = λ k x hk hx.
-      let row : index * set .l + x + 1 ≤ set .o * set .l = omega (arith, digits-lt h hx) in
-      omega (arith, mul-le-mul-right (set .l * (set .o * set .l)) row);
+  left = λ row k x hr hk hx.
+      let rows : row + x + 1 ≤ set .o * set .l = omega (arith, digits-lt h hx) in
+      omega (arith, mul-le-mul-right (set .l * (set .o * set .l)) rows);
   left-column = λ k x hk hx. omega (arith, row-fits (set .l) hk);
-  right = λ k x hk hx.
-      let row : index * set .o + k + 1 ≤ set .o * set .o = omega (arith, digits-lt h hk) in
-      omega (arith, mul-le-mul-right (set .l * (set .l * set .l)) row);
+  right = λ row k x hr hk hx.
+      let rows : row + k + 1 ≤ set .o * set .o = omega (arith, digits-lt h hk) in
+      omega (arith, mul-le-mul-right (set .l * (set .l * set .l)) rows);
   right-column = λ k x hk hx. omega (arith, row-fits (set .l) hx);
   powers = λ x hx. omega (arith, mul-le-mul-right (set .l) (row-fits (set .l) hx));
   power-column = λ x hx. omega arith;

@@ -55,6 +55,15 @@ powers : (c : tie.After-b) (x : ℕ) → x < start c .args .set .l
     → ((0 + x * 1 + 1) * start c .args .set .l * start c .args .set .l ≤ length (start c .args .sp .now)) × ((0 + x * 0 + 1) * start c .args .set .l ≤ start c .args .set .l)
 powers c x h = (omega (arith, places c .powers x h, start c .pre .1 .1 .1 .1 .1), places c .power-column x h)
 
+-- and the blocks of the left and the right sums in theirs, from a block row on
+left-block : (c : tie.After-b) (row k x : ℕ) → row ≤ index c * start c .args .set .l → k < start c .args .set .o → x < start c .args .set .l
+    → (row + k * 0 + x * 1 + 1) * start c .args .set .l * (start c .args .set .o * start c .args .set .l) ≤ length (start c .args .left .now)
+left-block c row k x hr hk hx = omega (arith, places c .left row k x hr hk hx, start c .pre .1 .1 .1 .0)
+
+right-block : (c : tie.After-b) (row k x : ℕ) → row ≤ index c * start c .args .set .o → k < start c .args .set .o → x < start c .args .set .l
+    → (row + k * 1 + x * 0 + 1) * start c .args .set .l * (start c .args .set .l * start c .args .set .l) ≤ length (start c .args .right .now)
+right-block c row k x hr hk hx = omega (arith, places c .right row k x hr hk hx, start c .pre .1 .1 .1 .1 .0)
+
 small : (c : tie.After-b) → start c .args .set .l ≤ 5
 small c = omega (arith, start c .pre .0 .bounds .limits .l-most)
 
@@ -132,7 +141,7 @@ fill-sides-requires c κs =
     let s = start known in
     let limits = s .pre .0 .bounds .limits in (
       (omega (arith, limits .l-least), (small known, (group1 known, omega (arith, limits .o-most, length-zeros 825)))),
-      λ k x hk hx. (omega (arith, places known .left k x hk hx, s .pre .1 .1 .1 .0), places known .left-column k x hk hx),
+      λ k x hk hx. (left-block known _ k x (omega arith) hk hx, places known .left-column k x hk hx),
     )
 
 slice-aggregate-fill-sides-2 : tie.Need-slice-aggregate-fill-sides-2
@@ -152,7 +161,7 @@ fill-sides-requires-2 c κs =
     let s = start known in
     let limits = s .pre .0 .bounds .limits in (
       (omega (arith, limits .l-least), (small known, (group2 known, omega (arith, limits .o-most, length-zeros 825)))),
-      λ k x hk hx. (omega (arith, places known .right k x hk hx, s .pre .1 .1 .1 .1 .0), places known .right-column k x hk hx),
+      λ k x hk hx. (right-block known _ k x (omega arith) hk hx, places known .right-column k x hk hx),
     )
 
 slice-aggregate-add-outer : tie.Need-slice-aggregate-add-outer
