@@ -18,9 +18,6 @@ pub record Numbered {A : Type 0} (number : A → ℕ) (Promise : A → Type 0) (
   pub meets : Promise answer
   pub is : n ≡ number answer
 
-abbrev pub setOf : (v o l : ℕ) → Set
-setOf v o l = record { v = v; o = o; l = l }
-
 abbrev pub Keygen : (set : Set) (public private key : List ℕ) (n : ℕ) (key′ : List ℕ) → Type 0
 Keygen set public private key n key′ = Numbered numberOf (λ r. Generates set public private key r key′) n
 

@@ -1,6 +1,7 @@
 // The C interface: each function of the model on a set given by its three numbers and on lent buffers, a pointer and then a length each, answered by page 01's number.
 // The promise is that of the function behind it (`Numbered` of specs/Interface.antt); any numbers and any buffers are answered.
-ghost use Rattle.snova.specs.Interface.{setOf, Keygen, Sign, Verify, Status, Pack, Unpack};
+ghost use Rattle.sets.specs.Table.{setOf};
+ghost use Rattle.snova.specs.Interface.{Keygen, Sign, Verify, Status, Pack, Unpack};
 use sets::Set;
 
 // Key generation: 0, 10, 11, 13 or 20.

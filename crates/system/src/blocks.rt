@@ -11,12 +11,9 @@ ghost use Rattle.matrix.specs.RingElements.{coefficient};
 ghost use Rattle.scheme.specs.Streams.{groupOf};
 ghost use Rattle.system.specs.BlockRows.{blockRow};
 ghost use Rattle.system.specs.Sides.{combinedFrom};
+use matrix::BYTES;
 use matrix::Block;
-
-// How the crate matrix lays out a block.
-pub const STRIDE: usize = 5;
-
-pub const BYTES: usize = 25;
+use matrix::STRIDE;
 
 // The l rows of a block, from byte 0 of sum on, gain factor times block (j, k) of a table in rows of w bytes.
 fn add_tile(sum: &mut [u8], l: usize, factor: u8, table: &[u8], w: usize, j: usize, k: usize)

@@ -10,11 +10,11 @@ ghost use Rattle.sets.specs.Sets.{abqBytes, targetBytes};
 ghost use Rattle.scheme.specs.Maps.{allInvertible};
 ghost use Rattle.terms.specs.Places.{Term};
 ghost use Rattle.system.specs.Equation.{leftTerm, rightTerm, equationRow, targetRow, Built};
-use super::blocks::STRIDE;
 use super::blocks::combined;
 use super::sides::add_outer;
 use super::sides::add_rows;
 use super::sides::fill_sides;
+use matrix::STRIDE;
 use sets::Set;
 
 // Room for o blocks of 25 bytes.

@@ -8,11 +8,11 @@ ghost use Rattle.matrix.specs.Block.{view};
 ghost use Rattle.matrix.specs.RingElements.{coefficient};
 ghost use Rattle.scheme.specs.Streams.{groupOf};
 ghost use Rattle.system.specs.Sides.{Sides, sideOf, outerRow, cellGain, rowGain};
-use super::blocks::BYTES;
-use super::blocks::STRIDE;
 use super::blocks::combined;
 use super::blocks::product;
+use matrix::BYTES;
 use matrix::Block;
+use matrix::STRIDE;
 
 // out becomes, for each k below count, the block first · (what a group of the ABQ stream combines of the table) · last; and zeros behind them.
 // The left sums go down the table's block rows and by k across; the right sums go across and by k down.

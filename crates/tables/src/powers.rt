@@ -10,9 +10,7 @@ ghost use Rattle.tables.specs.Table.{Filled};
 ghost use Rattle.tables.specs.Unpacked.{listOf};
 ghost use Rattle.tables.specs.RingRows.{Powers};
 ghost use Rattle.tables.specs.PowerRows.{powersRow};
-
-// The row stride of matrix's blocks of bytes.
-const STRIDE: usize = 5;
+use matrix::STRIDE;
 
 // sp[at..] gains S to the p, in l rows of l bytes.
 fn add_power(sp: &mut [u8], at: usize, l: usize, p: usize)
