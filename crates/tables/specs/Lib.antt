@@ -2,6 +2,7 @@ pub mod Rooms
 pub mod Numbers
 pub mod Table
 pub mod Gains
+pub mod Laid
 pub mod Entries
 pub mod Turns
 pub mod Unpacked

@@ -3,6 +3,7 @@
 mod numbers;
 mod powers;
 mod private;
+mod products;
 
 pub use numbers::p11_number;
 pub use numbers::p12_number;
@@ -11,6 +12,7 @@ pub use numbers::p22_number;
 pub use powers::power_table;
 pub use powers::powers_of_s;
 pub use private::private_table;
+pub use products::add_blocks;
 ghost use mathlib.Core.Path.{_≡_};
 ghost use Prim.Native.Nat.{ℕ, _+_, _*_, _^_, _<_, _≤_};
 ghost use lib.ListN.{length};

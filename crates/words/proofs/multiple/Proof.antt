@@ -1,0 +1,77 @@
+-- `words::multiple` meets its contract. The loop's invariant: w is the word of the multiples of the bytes from c on.
+use mathlib.Core.Path.{_≡_, sym, ap, _∙_}
+use Prim.Native.Nat.{_+_, _*_, _-_, _^_, _<_, _≤_}
+use lib.ListN.{length, getD}
+use Rattle.field.specs.Laws.{mul-lt}
+use Rattle.words.specs.Multiples.{multipleFrom, multiple-none, multiple-next, multiple-end, multiple-room}
+use borrow.Author.Needs.{needs}
+use native.Mathlib.Omega.{arith}
+use Rattle.words.proofs.multiple.Statement.{statement}
+use Rattle.words.proofs.multiple.Tie as tie
+
+abbrev Inv-loop : tie.InvT-loop
+Inv-loop row at n p w₀ c₀ w c = (c ≤ n) × (w ≡ multipleFrom n row at p c)
+
+abbrev μ-loop : tie.MeasureT-loop
+μ-loop row at n p w₀ c₀ w c = c
+
+loop-holds : tie.Need-loop-holds Inv-loop μ-loop
+loop-holds c = (search needs, sym (multiple-none _ _ _ _))
+
+sub-c : tie.Need-sub-c Inv-loop μ-loop
+sub-c c = search needs
+
+add-mul : tie.Need-add-mul Inv-loop μ-loop
+add-mul c = search needs
+
+shared-slice-read-mul : tie.Need-shared-slice-read-mul Inv-loop μ-loop
+shared-slice-read-mul c = search needs
+
+mul-requires : tie.Need-mul-requires Inv-loop μ-loop
+mul-requires c κs = search needs
+
+-- one element more fits the word
+room : (c : tie.After-mul Inv-loop μ-loop) → c .before .before .before .loop .w < 16 ^ 15
+room c =
+    let turn = c .before .before in
+    rw (turn .before .loop .inv .1) (multiple-room _ _ _ _ _ (turn .loop-test .taken) (turn .before .before .before .pre .1))
+
+-- and it is an element
+small : (c : tie.After-mul Inv-loop μ-loop) → c .mul .result < 16
+small c = rw (c .mul .ensures) (mul-lt _ _)
+
+mul-w : tie.Need-mul-w Inv-loop μ-loop
+mul-w c = omega (arith, room c)
+
+cast-w : tie.Need-cast-w Inv-loop μ-loop
+cast-w c = search needs
+
+add-w : tie.Need-add-w Inv-loop μ-loop
+add-w c = omega (arith, room c, small c)
+
+loop-less : tie.Need-loop-less Inv-loop μ-loop
+loop-less c = search needs
+
+loop-again : tie.Need-loop-again Inv-loop μ-loop
+loop-again c = let turn = c .before .before in (search needs, multiple-next _ _ _ _ _ (turn .loop-test .taken) (turn .before .loop .inv .0) (turn .before .loop .inv .1) (c .mul .ensures))
+
+returns : tie.Need-returns Inv-loop μ-loop
+returns c = let none : c .before .loop .c ≡ 0 = omega arith in c .before .loop .inv .1 ∙ ap (multipleFrom _ _ _ _) none ∙ multiple-end _ _ _ _
+
+pub multiple-spec : {M : Type 1} → statement M
+multiple-spec =
+    tie.close
+    (tie.spec
+    Inv-loop
+    μ-loop
+    loop-holds
+    sub-c
+    add-mul
+    shared-slice-read-mul
+    mul-requires
+    mul-w
+    cast-w
+    add-w
+    loop-less
+    loop-again
+    returns)

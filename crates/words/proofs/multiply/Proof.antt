@@ -1,0 +1,80 @@
+-- `words::multiply` meets its contract. The loop's invariant: the first k words are made.
+use Prim.Native.Nat.{_+_, _*_, _-_, _/_, _<_, _≤_}
+use lib.ListN.{length}
+use Rattle.ground.specs.Place.{row-fits}
+use Rattle.words.specs.Multiples.{Multiplying, multiplying-none, multiplying-next, multiplying-end, smaller-multiples}
+use borrow.Author.Needs.{needs}
+use native.Mathlib.Omega.{arith}
+use Rattle.words.proofs.multiply.Statement.{statement}
+use Rattle.words.proofs.multiply.Tie as tie
+
+abbrev Inv-loop : tie.InvT-loop
+Inv-loop table₀ src n count total k₀ table k = (k ≤ total) × Multiplying n src table₀ k table
+
+abbrev μ-loop : tie.MeasureT-loop
+μ-loop table₀ src n count total k₀ table k = total - k
+
+mul-total : tie.Need-mul-total Inv-loop μ-loop
+mul-total c = search needs
+
+loop-holds : tie.Need-loop-holds Inv-loop μ-loop
+loop-holds c = (search needs, multiplying-none)
+
+sub-next-multiple : tie.Need-sub-next-multiple Inv-loop μ-loop
+sub-next-multiple c = search needs
+
+-- the row of word k lies within src
+row-inside : (c : tie.In-loop Inv-loop μ-loop)
+    → c .before .loop .k / 16 * c .before .before .before .before .args .n + c .before .before .before .before .args .n
+    ≤ length (c .before .before .before .before .args .src .now)
+row-inside c =
+    let start = c .before .before .before .before in
+    let row : c .before .loop .k / 16 < start .args .count = omega arith in
+    omega (arith, row-fits (start .args .n) row)
+
+mul-next-multiple : tie.Need-mul-next-multiple Inv-loop μ-loop
+mul-next-multiple c = omega (arith, row-inside (c .before))
+
+next-multiple-requires : tie.Need-next-multiple-requires Inv-loop μ-loop
+next-multiple-requires c κs = let start = c .before .before .before .before .before in
+    ((row-inside (c .before), (start .pre .1 .1, (omega arith, omega (arith, c .before .before .loop .inv .1 .long)))), smaller-multiples (c .before .before .loop .inv .1))
+
+mul-table : tie.Need-mul-table Inv-loop μ-loop
+mul-table c = search needs
+
+slice-write-table : tie.Need-slice-write-table Inv-loop μ-loop
+slice-write-table c = omega (arith, c .before .before .before .loop .inv .1 .long)
+
+add-k : tie.Need-add-k Inv-loop μ-loop
+add-k c = search needs
+
+loop-less : tie.Need-loop-less Inv-loop μ-loop
+loop-less c = search needs
+
+loop-again : tie.Need-loop-again Inv-loop μ-loop
+loop-again c = (search needs, multiplying-next (c .before .before .before .loop .inv .1) (omega arith) _ (c .next-multiple .ensures))
+
+same-length : tie.Need-same-length Inv-loop μ-loop
+same-length c = c .before .loop .inv .1 .long
+
+returns : tie.Need-returns Inv-loop μ-loop
+returns c = multiplying-end (c .before .loop .inv .1) (c .before .loop .inv .0) (c .loop-test .left)
+
+pub multiply-spec : {M : Type 1} → statement M
+multiply-spec =
+    tie.close
+    (tie.spec
+    Inv-loop
+    μ-loop
+    mul-total
+    loop-holds
+    sub-next-multiple
+    mul-next-multiple
+    next-multiple-requires
+    mul-table
+    slice-write-table
+    add-k
+    loop-less
+    loop-again
+    same-length
+    returns)

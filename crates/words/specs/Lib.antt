@@ -1,0 +1,5 @@
+pub mod Words
+pub mod Multiples
+pub mod Lookups
+pub mod Spread
+pub mod Unique

@@ -1,0 +1,140 @@
+// Rows of up to sixteen elements as words: element c of a row is nibble c of a word, so that two rows are added by one exclusive or. A table of words holds the sixteen
+// multiples of each row of a byte table, so that a row times a scalar is one look-up. Sums of many short rows, as key generation, the verdict and signing have them, cost little then.
+ghost use mathlib.Core.Path.{_≡_};
+ghost use Prim.Native.Nat.{ℕ, _+_, _*_, _<_, _≤_};
+ghost use lib.ListN.{length, getD};
+ghost use Rattle.field.specs.Field.{mul};
+ghost use Rattle.rows.specs.Plus.{Plus};
+ghost use Rattle.words.specs.Words.{nibble, wordOf};
+ghost use Rattle.words.specs.Multiples.{highestOf, multipleOf, Multiplied};
+ghost use Rattle.words.specs.Lookups.{lookups, blockLookups};
+ghost use Rattle.words.specs.Spread.{Spread};
+
+// The word of p times row[at..at + n].
+fn multiple(row: &[u8], at: usize, n: usize, p: u8) -> u64
+    requires { ⌜ (at + n ≤ length (now row)) × (n ≤ 16) ⌝ }
+    ensures { λ w. ⌜ w ≡ multipleOf n (now (row .entry)) at p ⌝ }
+{
+    let mut w = 0;
+    let mut c = n;
+    while 0 < c {
+        c -= 1;
+        let e = field::mul(p, row[at + c]);
+        w = w * 16 + (e as u64);
+    }
+    w
+}
+
+// The largest of 1, 2, 4, 8 that is not above p; 0 for 0.
+fn highest(p: usize) -> usize
+    ensures { λ r. ⌜ r ≡ highestOf p ⌝ }
+{
+    if p >= 8 {
+        return 8;
+    }
+    if p >= 4 {
+        return 4;
+    }
+    if p >= 2 { 2 } else { p }
+}
+
+// The word of p times row[from..from + n]: the sum of two smaller multiples, which stand in the table from word `at` on, where p is no power of 2.
+fn next_multiple(table: &[u64], at: usize, row: &[u8], from: usize, n: usize, p: usize) -> u64
+    requires { ⌜ (from + n ≤ length (now row)) × ((n ≤ 16) × ((p < 16) × (at + p ≤ length (now table)))) ⌝ }
+    requires { ⌜ ((q : ℕ) → q < p → getD (now table) (at + q) 0 ≡ multipleOf n (now row) from q) ⌝ }
+    ensures { λ w. ⌜ w ≡ multipleOf n (now (row .entry)) from p ⌝ }
+{
+    let top = highest(p);
+    let rest = p - top;
+    if rest == 0 {
+        return multiple(row, from, n, p as u8);
+    }
+    table[at + top] ^ table[at + rest]
+}
+
+// The first 16·count words of the table become the multiples of count rows of n bytes: word 16·x + p is p times row x.
+pub fn multiply(table: &mut [u64], src: &[u8], n: usize, count: usize)
+    requires { ⌜ (count * 16 ≤ length (now table)) × ((count * n ≤ length (now src)) × (n ≤ 16)) ⌝ }
+    ensures { λ _. ⌜ Multiplied n count (now (src .entry)) (now (table .entry)) (now (table .exit)) ⌝ }
+{
+    let total = count * 16;
+    let mut k = 0;
+    while k < total {
+        let p = k % 16;
+        let w = next_multiple(table, k - p, src, k / 16 * n, n, p);
+        table[k] = w;
+        k += 1;
+    }
+}
+
+// The sum, over x below count, of the multiple of row first + x·stride by scalars[place + x·step].
+fn looked_up(
+    table: &[u64],
+    first: usize,
+    stride: usize,
+    scalars: &[u8],
+    place: usize,
+    step: usize,
+    count: usize,
+) -> u64
+    requires { ⌜ ((x : ℕ) → x < count → ((first + x * stride) * 16 + 16 ≤ length (now table)) × (place + x * step < length (now scalars))) ⌝ }
+    ensures { λ w. ⌜ w ≡ lookups (now (table .entry)) (now (scalars .entry)) first stride place step count ⌝ }
+{
+    let mut w = 0;
+    let mut x = 0;
+    while x < count {
+        let p = (scalars[place + x * step] % 16) as usize;
+        w ^= table[(first + x * stride) * 16 + p];
+        x += 1;
+    }
+    w
+}
+
+// A row of count l by l matrices that stand one after the other among the scalars, the first of them from `place` on, times the l·count rows of the table from `first` on.
+pub fn product_word(
+    table: &[u64],
+    first: usize,
+    l: usize,
+    scalars: &[u8],
+    place: usize,
+    count: usize,
+) -> u64
+    requires { ⌜ ((first + count * l) * 16 ≤ length (now table)) × ((place + count * (l * l) ≤ length (now scalars)) × (0 < count)) ⌝ }
+    ensures { λ w. ⌜ w ≡ blockLookups (now (table .entry)) (now (scalars .entry)) first l place count ⌝ }
+{
+    let mut w = 0;
+    let mut x = 0;
+    while x < l {
+        w ^= looked_up(table, first + x, l, scalars, place + x, l * l, count);
+        x += 1;
+    }
+    w
+}
+
+// dst[at..at + n] gains the first n elements of a word.
+pub fn add_word(dst: &mut [u8], at: usize, n: usize, w: u64)
+    requires { ⌜ at + n ≤ length (now dst) ⌝ }
+    ensures { λ _. ⌜ Plus (now (dst .entry)) at n (nibble w) (now (dst .exit)) ⌝ }
+{
+    let mut rest = w;
+    let mut c = 0;
+    while c < n {
+        dst[at + c] ^= (rest % 16) as u8;
+        rest = rest / 16;
+        c += 1;
+    }
+}
+
+// The elements of n bytes of a packed stream, from byte `from` on, become dst[0..2·n], one to a byte.
+pub fn spread(dst: &mut [u8], stream: &[u8], from: usize, n: usize)
+    requires { ⌜ (2 * n ≤ length (now dst)) × (from + n ≤ length (now stream)) ⌝ }
+    ensures { λ _. ⌜ Spread (now (stream .entry)) from n (now (dst .entry)) (now (dst .exit)) ⌝ }
+{
+    let mut k = 0;
+    while k < n {
+        let b = stream[from + k];
+        dst[2 * k] = b % 16;
+        dst[2 * k + 1] = b / 16 % 16;
+        k += 1;
+    }
+}
