@@ -1,9 +1,9 @@
 -- The elements of a stream's blocks laid out one to a byte, and their products with a table by its multiples.
 -- Rests on words' look-ups, scheme's blocks and Gains.
-use mathlib.Core.Path.{_≡_, sym, ap, ap₂, _∙_}
+use mathlib.Core.Path.{_≡_, refl, ap, ap₂, subst, _∙_}
 use mathlib.Core.List.{List}
 use Prim.Native.Nat.{ℕ, _+_, _-_, _*_, _/_, _%_, _<_, _≤_}
-use native.Mathlib.Nat.{mul-le-mul-right}
+use native.Mathlib.Nat.{mul-le-mul, mul-le-mul-left, mul-le-mul-right}
 use native.Mathlib.Omega.{arith}
 use lib.ListN.{length, getD}
 use Rattle.ground.specs.Place.{row-fits}
@@ -60,3 +60,40 @@ pub record AddingBlocks (d : List ℕ) (at n : ℕ) (stream : List ℕ) (number 
   pub upto : r ≤ l
   pub long : length t ≡ length d
   pub so-far : (src : List ℕ) → Multiples n ((first + count) * l) src multiples → PlusRows d at r n (λ y. productRow l stream number y count src n first) t
+
+pub adding-none : {d : List ℕ} {at n : ℕ} {stream : List ℕ} {number l count : ℕ} {multiples : List ℕ} {first : ℕ} → AddingBlocks d at n stream number l count multiples first 0 d
+adding-none = record { upto = omega arith; long = refl; so-far = λ src m. rows-none }
+
+pub adding-next : {d t u : List ℕ} {at n : ℕ} {stream : List ℕ} {number l count : ℕ} {multiples : List ℕ} {first r place w : ℕ} {flat : List ℕ}
+    → AddingBlocks d at n stream number l count multiples first r t → r < l → Laid l count stream number place flat
+    → w ≡ blockLookups multiples flat (first * l) l (place + r * l) count → Plus t (at + r * n) n (nibble w) u
+    → AddingBlocks d at n stream number l count multiples first (r + 1) u
+adding-next {n = n} {stream} {number} {l} {count} {multiples} {first} {r} {place} {w} {flat} p hr laid w-is q = record {
+  upto = omega arith;
+  long = q .long ∙ p .long;
+  so-far = λ src m. rows-next (p .so-far src m) refl (plus-cong (λ z hz. ap (λ x. nibble x z) w-is ∙ element-of src m z hz) q);
+}
+  where
+    element-of : (src : List ℕ) → Multiples n ((first + count) * l) src multiples → (z : ℕ) → z < n
+        → nibble (blockLookups multiples flat (first * l) l (place + r * l) count) z ≡ productRow l stream number r count src n first z
+    element-of src m z hz = block-lookups m flat (first * l) l (place + r * l) count (omega arith) z hz ∙ laid-sum laid src n first r z hr
+
+pub adding-end : {d t : List ℕ} {at n : ℕ} {stream : List ℕ} {number l count : ℕ} {multiples : List ℕ} {first r : ℕ}
+    → AddingBlocks d at n stream number l count multiples first r t → l ≤ r
+    → (src : List ℕ) → Multiples n ((first + count) * l) src multiples → PlusRows d at l n (λ y. productRow l stream number y count src n first) t
+adding-end {d} {t} {at} {n} {stream} {number} {l} {count} {first = first} p h src m =
+    subst (λ k. PlusRows d at k n (λ y. productRow l stream number y count src n first) t) (omega (arith, p .upto)) (p .so-far src m)
+
+-- ---- sizes that the code needs
+
+-- one block has room where count of them have
+pub block-room : {count room : ℕ} (l : ℕ) → 0 < count → count * (l * l) ≤ room → l * l ≤ room
+block-room l some h = omega (arith, mul-le-mul-right (l * l) some)
+
+-- a row of a block starts within it
+pub row-room : {l r : ℕ} → r < l → r * l + l ≤ l * l
+row-room {l} h = row-fits l h
+
+-- there are not more blocks than elements
+pub blocks-le : {l : ℕ} (n : ℕ) → 0 < l → n ≤ n * (l * l)
+blocks-le {l} n some = omega (arith, mul-le-mul-left n (mul-le-mul some some))

@@ -13,7 +13,7 @@ const FLAT: usize = 1216;
 
 // Lays the elements of count blocks of the stream into flat, one to a byte, from the place on that is answered: 1 where the first block begins in the middle of a byte.
 fn lay_blocks(flat: &mut [u8], stream: &[u8], number: usize, l: usize, count: usize) -> usize
-    requires { ⌜ ((number + count) * (l * l) ≤ 2 * length (now stream)) × (count * (l * l) + 2 ≤ length (now flat)) ⌝ }
+    requires { ⌜ ((number + count) * (l * l) ≤ 2 * length (now stream)) × ((count * (l * l) + 2 ≤ length (now flat)) × ((0 < count) × (0 < l))) ⌝ }
     ensures { λ place. ⌜ Laid l count (now (stream .entry)) number place (now (flat .exit)) ⌝ }
 {
     let size = l * l;
@@ -38,7 +38,7 @@ pub fn add_blocks(
     first: usize,
 )
     requires { ⌜ (at + l * n ≤ length (now dst)) × ((number + count) * (l * l) ≤ 2 * length (now stream)) ⌝ }
-    requires { ⌜ ((first + count) * l * 16 ≤ length (now multiples)) × ((count * (l * l) ≤ 1200) × ((0 < count) × (l ≤ mostL))) ⌝ }
+    requires { ⌜ ((first + count) * l * 16 ≤ length (now multiples)) × ((count * (l * l) ≤ 1200) × ((0 < count) × ((0 < l) × (l ≤ mostL)))) ⌝ }
     ensures { λ _. ⌜ ((src : List ℕ) → Multiples n ((first + count) * l) src (now (multiples .entry))
         → PlusRows (now (dst .entry)) at l n (λ r. productRow l (now (stream .entry)) number r count src n first) (now (dst .exit))) ⌝ }
 {

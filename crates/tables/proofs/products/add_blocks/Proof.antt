@@ -1,0 +1,101 @@
+-- `tables::add_blocks` meets its contract. The loop's invariant: for every table whose multiples these are, the first r rows have gained their products (`AddingBlocks`).
+use Prim.Native.Nat.{_+_, _*_, _-_, _<_, _≤_}
+use native.Mathlib.Nat.{le-trans, mul-le-mul}
+use lib.ListN.{length}
+use Rattle.ground.specs.Place.{row-fits}
+use Rattle.tables.specs.Laid.{AddingBlocks, adding-none, adding-next, adding-end, row-room}
+use borrow.Author.Needs.{needs}
+use native.Mathlib.Omega.{arith}
+use Rattle.tables.proofs.products.add_blocks.Statement.{statement}
+use Rattle.tables.proofs.products.add_blocks.Tie as tie
+
+abbrev Inv-loop : tie.InvT-loop
+Inv-loop dst₀ at n stream number l count multiples first flat place r₀ dst r = AddingBlocks dst₀ at n stream number l count multiples first r dst
+
+abbrev μ-loop : tie.MeasureT-loop
+μ-loop dst₀ at n stream number l count multiples first flat place r₀ dst r = l - r
+
+slice-aggregate-lay-blocks : tie.Need-slice-aggregate-lay-blocks Inv-loop μ-loop
+slice-aggregate-lay-blocks c = search needs
+
+lay-blocks-requires : tie.Need-lay-blocks-requires Inv-loop μ-loop
+lay-blocks-requires c κs = search needs
+
+loop-holds : tie.Need-loop-holds Inv-loop μ-loop
+loop-holds c = adding-none
+
+-- row r starts within a block, and its row of dst within dst
+row-inside : (c : tie.In-loop Inv-loop μ-loop)
+    → (c .before .loop .r * c .before .before .before .before .before .before .before .before .args .l + c .before .before .before .before .before .before .before .before .args .l ≤ 16)
+    × (c .before .loop .r * c .before .before .before .before .before .before .before .before .args .n + c .before .before .before .before .before .before .before .before .args .n
+    ≤ c .before .before .before .before .before .before .before .before .args .l * c .before .before .before .before .before .before .before .before .args .n)
+row-inside c =
+    let start = c .before .before .before .before .before .before .before .before in
+    let most = start .pre .1 .1 .1 .1 .1 in
+    (le-trans (row-room (c .loop-test .taken)) (mul-le-mul most most), row-fits (start .args .n) (c .loop-test .taken))
+
+mul-product-word : tie.Need-mul-product-word Inv-loop μ-loop
+mul-product-word c = search needs
+
+slice-aggregate-product-word : tie.Need-slice-aggregate-product-word Inv-loop μ-loop
+slice-aggregate-product-word c = search needs
+
+mul-product-word-2 : tie.Need-mul-product-word-2 Inv-loop μ-loop
+mul-product-word-2 c = omega (arith, row-inside (c .before) .0)
+
+add-product-word : tie.Need-add-product-word Inv-loop μ-loop
+add-product-word c = omega (arith, row-inside (c .before) .0, c .before .before .before .before .lay-blocks .ensures .early)
+
+product-word-requires : tie.Need-product-word-requires Inv-loop μ-loop
+product-word-requires c κs =
+    let laid = c .before .before .before .before .lay-blocks in
+    let start = c .before .before .before .before .before .before .before .before .before in
+    (omega (arith, start .pre .1 .0), (omega (arith, row-inside (c .before) .0, laid .ensures .early, laid .kept .0, start .pre .1 .1 .0), start .pre .1 .1 .1 .0))
+
+mul-add-word : tie.Need-mul-add-word Inv-loop μ-loop
+mul-add-word c = omega (arith, row-inside (c .before .before .before) .1)
+
+add-add-word : tie.Need-add-add-word Inv-loop μ-loop
+add-add-word c = omega (arith, row-inside (c .before .before .before) .1)
+
+add-word-requires : tie.Need-add-word-requires Inv-loop μ-loop
+add-word-requires c κs = omega (arith, row-inside (c .before .before .before) .1, c .before .before .before .before .loop .inv .long)
+
+add-r : tie.Need-add-r Inv-loop μ-loop
+add-r c = search needs
+
+loop-less : tie.Need-loop-less Inv-loop μ-loop
+loop-less c = search needs
+
+loop-again : tie.Need-loop-again Inv-loop μ-loop
+loop-again c = adding-next (c .before .before .before .before .before .before .before .loop .inv) (c .before .before .before .before .before .before .loop-test .taken)
+    (c .before .before .before .before .before .before .before .before .before .lay-blocks .ensures) (c .before .before .before .before .product-word .ensures) (c .before .before .add-word .ensures)
+
+same-length : tie.Need-same-length Inv-loop μ-loop
+same-length c = c .before .loop .inv .long
+
+returns : tie.Need-returns Inv-loop μ-loop
+returns c = adding-end (c .before .loop .inv) (c .loop-test .left)
+
+pub add-blocks-spec : {M : Type 1} → statement M
+add-blocks-spec =
+    tie.close
+    (tie.spec
+    Inv-loop
+    μ-loop
+    slice-aggregate-lay-blocks
+    lay-blocks-requires
+    loop-holds
+    mul-product-word
+    slice-aggregate-product-word
+    mul-product-word-2
+    add-product-word
+    product-word-requires
+    mul-add-word
+    add-add-word
+    add-word-requires
+    add-r
+    loop-less
+    loop-again
+    same-length
+    returns)
