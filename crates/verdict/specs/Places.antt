@@ -4,6 +4,7 @@ use mathlib.Core.Path.{_≡_}
 use mathlib.Core.List.{List}
 use Prim.Native.Nat.{ℕ, _+_, _*_, _<_, _≤_}
 use native.Mathlib.Nat.{mul-le-mul, mul-le-mul-right}
+use native.Mathlib.Decide.{decLt}
 use native.Mathlib.Omega.{arith}
 use lib.ListN.{length}
 use Rattle.sets.specs.declared.Set.{Set}
@@ -33,6 +34,23 @@ module _ {set : Set} (b : Bounds set) where
 
   pub table-room : variables set * set .l * (set .l * set .l) ≤ 5440
   table-room = omega (arith, mul-le-mul list-room (b .limits .l-most))
+
+  -- the sixteen multiples of each of the n·l rows: 340 rows where l is 4 and o at most 10, fewer below
+  pub rows-room : variables set * set .l * 16 ≤ 5440
+  rows-room =
+      elim (decLt (set .l) 4) [
+        | yes h ↦
+            let small : set .l ≤ 3 = omega arith in
+            omega (arith, mul-le-mul (b .limits .v-most) small, mul-le-mul (b .limits .o-most) small)
+        | no h ↦
+            let l-is : set .l ≡ 4 = omega (arith, b .limits .l-most) in
+            let oil : set .o * (4 * 4) ≤ 160 = rw l-is at (b .limits .row) in
+            rw l-is (omega (arith, b .limits .v-most))
+      ]
+
+  -- a row of l·l elements is a word
+  pub square-room : set .l * set .l ≤ 16
+  square-room = b .products .ll
 
 -- the rows of one matrix index lie within the table of power sums
 pub index-within : (l : ℕ) {o i n : ℕ} → i < o → o * (l * l) * (l * l) ≤ n → i * (l * l) * (l * l) + l * l * (l * l) ≤ n

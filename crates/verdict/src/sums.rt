@@ -5,6 +5,7 @@ ghost use mathlib.Core.Path.{_≡_};
 ghost use lib.ListN.{length};
 ghost use Rattle.sets.specs.Bounds.{Bounds};
 ghost use Rattle.sets.specs.Sets.{publicBytes, keyBytes, signatureBytes, variables};
+ghost use Rattle.words.specs.Multiples.{Multiples};
 ghost use Rattle.scheme.specs.Streams.{signatureOf};
 ghost use Rattle.verdict.specs.Sums.{PowersOf, IndexSums, SumsOf};
 use super::map::map_rows;
@@ -13,6 +14,9 @@ use tables::POWERS;
 
 // Room for the signature's elements, one to a byte.
 const LIST: usize = 1360;
+
+// Room for the sixteen multiples of each of the n·l rows of w.
+const MULTIPLES: usize = 5440;
 
 // w becomes the powers of S times the signature's matrices.
 pub fn signature_table(w: &mut [u8], set: Set, signature: &[u8])
@@ -28,11 +32,20 @@ pub fn signature_table(w: &mut [u8], set: Set, signature: &[u8])
     tables::power_table(w, l, n, &list, &powers);
 }
 
-// The rows of matrix index i gain its power sums, one j after the other.
-fn index_sums(sums: &mut [u8], set: Set, public: &[u8], key: &[u8], w: &[u8], i: usize)
+// The rows of matrix index i gain its power sums, one j after the other. `multiples` holds the multiples of the rows of w.
+fn index_sums(
+    sums: &mut [u8],
+    set: Set,
+    public: &[u8],
+    key: &[u8],
+    w: &[u8],
+    multiples: &[u64],
+    i: usize,
+)
     requires { ⌜ Bounds set × (i < set .o) ⌝ }
     requires { ⌜ (set .o * (set .l * set .l) * (set .l * set .l) ≤ length (now sums)) × (variables set * set .l * (set .l * set .l) ≤ length (now w)) ⌝ }
     requires { ⌜ (length (now public) ≡ publicBytes set) × (length (now key) ≡ keyBytes set) ⌝ }
+    requires { ⌜ (variables set * set .l * 16 ≤ length (now multiples)) × Multiples (set .l * set .l) (variables set * set .l) (now w) (now multiples) ⌝ }
     ensures { λ _. ⌜ IndexSums set (now (public .entry)) (now (key .entry)) (now (w .entry)) i (now (sums .entry)) (variables set) (now (sums .exit)) ⌝ }
 {
     let l = set.l;
@@ -41,7 +54,7 @@ fn index_sums(sums: &mut [u8], set: Set, public: &[u8], key: &[u8], w: &[u8], i:
     let mut y = [0u8; POWERS];
     let mut j = 0;
     while j < n {
-        map_rows(&mut y, set, public, key, w, i, j);
+        map_rows(&mut y, set, public, key, multiples, i, j);
         terms::add_power_sum(sums, at, l, w, j, &y);
         j += 1;
     }
@@ -55,10 +68,13 @@ pub fn all_sums(sums: &mut [u8], set: Set, public: &[u8], key: &[u8], w: &[u8])
     ensures { λ _. ⌜ SumsOf set (now (public .entry)) (now (key .entry)) (now (w .entry)) (now (sums .exit)) ⌝ }
 {
     rows::clear(sums);
+    let l = set.l;
     let o = set.o;
+    let mut multiples = [0u64; MULTIPLES];
+    words::multiply(&mut multiples, w, l * l, (set.v + o) * l);
     let mut i = 0;
     while i < o {
-        index_sums(sums, set, public, key, w, i);
+        index_sums(sums, set, public, key, w, &multiples, i);
         i += 1;
     }
 }

@@ -34,6 +34,10 @@ highestOf p = pick (leb 8 p) 8 (pick (leb 4 p) 4 (pick (leb 2 p) 2 p))
 pub record Multiples (n count : ℕ) (src table : List ℕ) : Type 0 where
   pub word : (x p : ℕ) → x < count → p < 16 → getD table (x * 16 + p) 0 ≡ multipleOf n src (x * n) p
 
+-- the multiples of the first rows
+pub fewer-multiples : {n a b : ℕ} {src table : List ℕ} → Multiples n a src table → b ≤ a → Multiples n b src table
+fewer-multiples m h = record { word = λ x p hx hp. m .word x p (omega arith) hp }
+
 -- the table before and after it was filled: words behind the multiples stay
 pub record Multiplied (n count : ℕ) (src before after : List ℕ) : Type 0 where
   pub long : length after ≡ length before

@@ -21,7 +21,7 @@ same-length-2 : tie.Need-same-length-2
 same-length-2 c = search needs
 
 returns-2 : tie.Need-returns-2
-returns-2 c = let a = c .before .before .before .before .before .before .before .before .before .args in oil-row (a .set) (a .public .now) (a .key .now) (a .w .now) (a .i) (a .j) (omega (arith, c .before .before .before .before .if1 .left)) (c .before .before .oil-rows .ensures)
+returns-2 c = let a = c .before .before .before .before .before .before .before .before .before .args in λ w m. oil-row (a .set) (a .public .now) (a .key .now) w (a .i) (a .j) (omega (arith, c .before .before .before .before .if1 .left)) (c .before .before .oil-rows .ensures w m)
 
 pub map-rows-spec : {M : Type 1} → statement M
 map-rows-spec =

@@ -35,8 +35,8 @@ returns : tie.Need-returns
 returns c =
     let s = c .before .before .before .before .before .before .before .before .before .before .before .before .before .before in
     let a = s .args in
-    oil-holds (a .set) (a .public .now) (a .key .now) (a .w .now) (a .i) (a .k) (c .before .before .before .before .before .p21-number .ensures .is) (c .before .before .before .before .p22-number .ensures .is)
-    (cleared (a .y .now) (c .before .before .before .before .before .before .before .before .clear .ensures)) (c .before .before .add-rows .ensures)
+    λ w m. oil-holds (a .set) (a .public .now) (a .key .now) w (a .i) (a .k) (c .before .before .before .before .before .p21-number .ensures .is) (c .before .before .before .before .p22-number .ensures .is)
+    (cleared (a .y .now) (c .before .before .before .before .before .before .before .before .clear .ensures)) (c .before .before .add-rows .ensures w m)
 
 pub oil-rows-spec : {M : Type 1} → statement M
 oil-rows-spec =

@@ -35,8 +35,8 @@ returns : tie.Need-returns
 returns c =
     let s = c .before .before .before .before .before .before .before .before .before .before .before .before .before .before in
     let a = s .args in
-    vinegar-holds (a .set) (a .public .now) (a .key .now) (a .w .now) (a .i) (a .j) (s .pre .0 .2) (c .before .before .before .before .before .p11-number .ensures .is) (c .before .before .before .before .p12-number .ensures .is)
-    (cleared (a .y .now) (c .before .before .before .before .before .before .before .before .clear .ensures)) (c .before .before .add-rows .ensures)
+    λ w m. vinegar-holds (a .set) (a .public .now) (a .key .now) w (a .i) (a .j) (s .pre .0 .2) (c .before .before .before .before .before .p11-number .ensures .is) (c .before .before .before .before .p12-number .ensures .is)
+    (cleared (a .y .now) (c .before .before .before .before .before .before .before .before .clear .ensures)) (c .before .before .add-rows .ensures w m)
 
 pub vinegar-rows-spec : {M : Type 1} → statement M
 vinegar-rows-spec =
