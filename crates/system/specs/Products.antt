@@ -18,6 +18,7 @@ use Rattle.rows.specs.Plus.{Plus, plus-cong}
 use Rattle.rows.specs.PlusRows.{PlusRows, rows-none, rows-next, rows-cong, rows-then, rows-zero-start}
 use Rattle.rows.specs.Combine.{combination}
 use Rattle.rows.specs.RowsJoin.{rows-end, rows-join}
+use Rattle.words.specs.Multiples.{Multiples, fewer-multiples}
 use Rattle.tables.specs.Table.{cleared}
 use Rattle.tables.specs.Gains.{blocksRow, productRow}
 
@@ -160,24 +161,66 @@ stacking-end {d} {t} {m} {n} {o} {i} {g} p h = let all : i ≡ o = omega (arith,
 
 -- ---- where a turn reads and writes
 
+-- block row y of the a by count blocks of a stream, and the l rows of n bytes that it gives
 pub record ProductTurn (l n number a count y : ℕ) : Type 0 where
-  pub row : y * n + n ≤ a * l * n
-  pub first : y / l * count + count ≤ a * count
-  pub blocks : (number + y / l * count + count) * (l * l) ≤ (number + a * count) * (l * l)
+  pub rows : y * (l * n) + l * n ≤ a * l * n
+  pub first : y * count + count ≤ a * count
+  pub blocks : (number + y * count + count) * (l * l) ≤ (number + a * count) * (l * l)
   pub plain : number + a * count ≤ (number + a * count) * (l * l)
-  pub column : y % l < l
 
-pub product-turn : (l n number a count : ℕ) {y : ℕ} → 0 < l → y < a * l → ProductTurn l n number a count y
+pub product-turn : (l n number a count : ℕ) {y : ℕ} → 0 < l → y < a → ProductTurn l n number a count y
 product-turn l n number a count {y} hl h =
-    let first = row-fits count (div-lt-iff-lt-mul hl .1 h) in
-    let whole : number + y / l * count + count ≤ number + a * count = omega arith in
+    let first = row-fits count h in
+    let whole : number + y * count + count ≤ number + a * count = omega arith in
     record {
-      row = row-fits n h;
+      rows = omega (arith, row-fits (l * n) h);
       first = first;
       blocks = mul-le-mul-right (l * l) whole;
       plain = le-mul-of-pos-right (number + a * count) (mul-pos hl hl);
-      column = mod-lt y hl;
     }
+
+-- a loop over the a block rows: y of them are added, for every table whose multiples are looked up
+pub record Multiplying (d : List ℕ) (at n : ℕ) (stream : List ℕ) (number l a count : ℕ) (multiples : List ℕ) (y : ℕ) (t : List ℕ) : Type 0 where
+  pub upto : y ≤ a
+  pub long : length t ≡ length d
+  pub so-far : (src : List ℕ) → Multiples n (count * l) src multiples → PlusRows d at (y * l) n (productsRow l stream number count src n) t
+
+pub multiplying-none : {d : List ℕ} {at n : ℕ} {stream : List ℕ} {number l a count : ℕ} {multiples : List ℕ}
+    → Multiplying d at n stream number l a count multiples 0 d
+multiplying-none {d} {at} {n} {stream} {number} {l} {count = count} =
+    let none : 0 ≡ 0 * l = omega arith in
+    record {
+      upto = omega arith;
+      long = refl;
+      so-far = λ src m. subst (λ k. PlusRows d at k n (productsRow l stream number count src n) d) none rows-none;
+    }
+
+pub multiplying-next : {d t u : List ℕ} {at n : ℕ} {stream : List ℕ} {number l a count : ℕ} {multiples : List ℕ} {y : ℕ}
+    → Multiplying d at n stream number l a count multiples y t → y < a → length u ≡ length t
+    → ((src : List ℕ) → Multiples n ((0 + count) * l) src multiples
+    → PlusRows t (at + y * (l * n)) l n (λ r. productRow l stream (number + y * count) r count src n 0) u)
+    → Multiplying d at n stream number l a count multiples (y + 1) u
+multiplying-next {d} {t} {u} {at} {n} {stream} {number} {l} {a} {count} {multiples} {y} p h long q =
+    let more : y * l + l ≡ (y + 1) * l = omega arith in
+    let place : at + y * (l * n) ≡ at + y * l * n = omega arith in
+    record {
+      upto = omega arith;
+      long = long ∙ p .long;
+      so-far = λ src m.
+          subst (λ k. PlusRows d at k n (productsRow l stream number count src n) u) more
+          (rows-join (p .so-far src m) place (rows-cong (λ r c hr hc. rule src r c hr) (q src (fewer-multiples m (omega arith)))));
+    }
+  where
+    rule : (src : List ℕ) (r c : ℕ) → r < l
+        → productRow l stream (number + y * count) r count src n 0 c ≡ productsRow l stream number count src n (y * l + r) c
+    rule src r c hr = rw (digits-div y hr, digits-mod y hr)
+
+pub multiplying-end : {d t : List ℕ} {at n : ℕ} {stream : List ℕ} {number l a count : ℕ} {multiples : List ℕ} {y : ℕ}
+    → Multiplying d at n stream number l a count multiples y t → a ≤ y
+    → (src : List ℕ) → Multiples n (count * l) src multiples → PlusRows d at (a * l) n (productsRow l stream number count src n) t
+multiplying-end {d} {t} {at} {n} {stream} {number} {l} {a} {count} {y = y} p h src m =
+    let all : y ≡ a = omega (arith, p .upto) in
+    subst (λ k. PlusRows d at (k * l) n (productsRow l stream number count src n) t) all (p .so-far src m)
 
 -- block row j of the v by count blocks of a stream, and of a table x in rows of l·l bytes
 pub record LeftTurn (l number v count j : ℕ) : Type 0 where

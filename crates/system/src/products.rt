@@ -1,8 +1,10 @@
 // Products of whole byte tables, added row by row: the blocks of a stream times a table, a table transposed times a table, and a table times a table.
 ghost use mathlib.Core.Path.{_≡_};
-ghost use Prim.Native.Nat.{ℕ, _+_, _*_, _/_, _%_, _<_, _≤_};
+ghost use mathlib.Core.List.{List};
+ghost use Prim.Native.Nat.{ℕ, _+_, _*_, _<_, _≤_};
 ghost use lib.ListN.{length};
 ghost use Rattle.rows.specs.PlusRows.{PlusRows};
+ghost use Rattle.words.specs.Multiples.{Multiples};
 ghost use Rattle.sets.specs.Sets.{mostL};
 ghost use Rattle.tables.specs.Gains.{blocksRow};
 ghost use Rattle.system.specs.Products.{HasRows, productsRow, transposedGain, timesGain, rowsOf, leftGain};
@@ -10,7 +12,8 @@ ghost use Rattle.system.specs.Products.{HasRows, productsRow, transposed
 // Room for l rows of v blocks, or of o blocks.
 const BUFFER: usize = 1200;
 
-// The a·l rows of n bytes from byte `at` on gain the a by count blocks of the stream from block number on, times the count block rows of src.
+// The a·l rows of n bytes from byte `at` on gain the a by count blocks of the stream from block number on, times the count block rows of a table in rows of n bytes.
+// `multiples` holds the multiples of that table's rows (crate words).
 pub fn add_products(
     dst: &mut [u8],
     at: usize,
@@ -20,24 +23,24 @@ pub fn add_products(
     l: usize,
     a: usize,
     count: usize,
-    src: &[u8],
+    multiples: &[u64],
 )
-    requires { ⌜ (at + a * l * n ≤ length (now dst)) × (((number + a * count) * (l * l) ≤ 2 * length (now stream)) × ((count * l * n ≤ length (now src)) × ((0 < n) × (0 < l)))) ⌝ }
-    ensures { λ _. ⌜ PlusRows (now (dst .entry)) at (a * l) n (productsRow l (now (stream .entry)) number count (now (src .entry)) n) (now (dst .exit)) ⌝ }
+    requires { ⌜ (at + a * l * n ≤ length (now dst)) × (((number + a * count) * (l * l) ≤ 2 * length (now stream)) × (count * l * 16 ≤ length (now multiples))) ⌝ }
+    requires { ⌜ (count * (l * l) ≤ 1200) × ((0 < count) × ((0 < l) × (l ≤ mostL))) ⌝ }
+    ensures { λ _. ⌜ ((src : List ℕ) → Multiples n (count * l) src (now (multiples .entry))
+        → PlusRows (now (dst .entry)) at (a * l) n (productsRow l (now (stream .entry)) number count src n) (now (dst .exit))) ⌝ }
 {
-    let total = a * l;
     let mut y = 0;
-    while y < total {
-        tables::add_product_row(
+    while y < a {
+        tables::add_blocks(
             dst,
-            at + y * n,
+            at + y * (l * n),
             n,
             stream,
-            number + y / l * count,
+            number + y * count,
             l,
-            y % l,
             count,
-            src,
+            multiples,
             0,
         );
         y += 1;

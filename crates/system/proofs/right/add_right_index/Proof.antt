@@ -27,11 +27,11 @@ mul-add-products c =
     omega (arith, sizes (c .before .before .before .before .before .before .before) .ll)
 
 add-products-requires : tie.Need-add-products-requires
-add-products-requires c κs =
-    let s = c .before .before .before .before .before .before .before in
+add-products-requires c κs = let s = c .before .before .before .before .before .before .before in
     let set = s .args .set in
+    let bounds = s .pre .0 .0 in
     let p21 = number-within (set .o * set .v) (set .l * set .l) (c .before .p21-number .ensures .is) (places s .p21) in
-    (s .pre .0 .1 .1, (p21, (s .pre .1 .0 .1 .0, (sizes s .square, sizes s .positive-l))))
+    ((s .pre .0 .1 .1, (p21, s .pre .1 .0 .1 .0)), (bounds .products .vll, (sizes s .positive-v, (sizes s .positive-l, bounds .limits .l-most))))
 
 mul-add-transposed : tie.Need-mul-add-transposed
 mul-add-transposed c =
@@ -49,20 +49,21 @@ add-transposed-requires : tie.Need-add-transposed-requires
 add-transposed-requires c κs =
     let s = c .before .before .before .before .before .before .before .before .before .before .before in (
       kept-room (s .pre .0 .1 .1) (c .before .before .before .add-products .kept .0),
-      (omega (arith, s .pre .1 .0 .1 .1), (s .pre .1 .1 .1, sizes s .rows)),
+      (omega (arith, s .pre .1 .0 .1 .1), (s .pre .1 .1, sizes s .rows)),
     )
 
 same-length : tie.Need-same-length
 same-length c = search needs
 
 returns : tie.Need-returns
-returns c =
-    let s = c .before .before .before .before .before .before .before .before .before .before .before .before .before .before in
+returns c = let s = c .before .before .before .before .before .before .before .before .before .before .before .before .before .before in
     let a = s .args in
     let set = a .set in
-    let p21 =
-    products-at (set .l) (a .public .now) (set .v) (a .x .now) (set .l * set .l) (c .before .before .before .before .before .before .before .before .p21-number .ensures .is) (c .before .before .before .before .before .before .add-products .ensures) in
-    rows-then p21 (transposed-loaded (a .t .now) 0 (set .v * set .l) (c .before .before .add-transposed .ensures) (s .pre .1 .1 .0))
+    λ x m y-holds.
+    rows-then
+    (products-at (set .l) (a .public .now) (set .v) x (set .l * set .l) (c .before .before .before .before .before .before .before .before .p21-number .ensures .is)
+    (c .before .before .before .before .before .before .add-products .ensures x m))
+    (transposed-loaded (a .t .now) 0 (set .v * set .l) (c .before .before .add-transposed .ensures) y-holds)
 
 pub add-right-index-spec : {M : Type 1} → statement M
 add-right-index-spec =

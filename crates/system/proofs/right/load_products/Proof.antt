@@ -28,22 +28,23 @@ mul-add-products c =
     omega (arith, sizes (c .before .before .before .before .before .before .before .before .before) .ll)
 
 add-products-requires : tie.Need-add-products-requires
-add-products-requires c κs =
-    let s = c .before .before .before .before .before .before .before .before .before in
+add-products-requires c κs = let s = c .before .before .before .before .before .before .before .before .before in
     let set = s .args .set in
-    let p11 = number-within (set .v * set .v) (set .l * set .l) (c .before .p11-number .ensures .is) (places s .p11) in
-    (omega (arith, s .pre .0 .1 .1, c .before .before .before .before .clear .kept .0), (p11, (s .pre .1 .1, (sizes s .square, sizes s .positive-l))))
+    let bounds = s .pre .0 .0 in
+    let p11 = number-within (set .v * set .v) (set .l * set .l) (c .before .p11-number .ensures .is) (places s .p11) in (
+      (omega (arith, s .pre .0 .1 .1, c .before .before .before .before .clear .kept .0), (p11, s .pre .1 .1)),
+      (bounds .products .vll, (sizes s .positive-v, (sizes s .positive-l, bounds .limits .l-most))),
+    )
 
 same-length : tie.Need-same-length
 same-length c = search needs
 
 returns : tie.Need-returns
-returns c =
-    let a = c .before .before .before .before .before .before .before .before .before .before .before .before .args in
+returns c = let a = c .before .before .before .before .before .before .before .before .before .before .before .before .args in
     let set = a .set in
-    let p11 =
-    products-at (set .l) (a .public .now) (set .v) (a .x .now) (set .l * set .l) (c .before .before .before .before .p11-number .ensures .is) (c .before .before .add-products .ensures) in
-    zero-rows-from (a .y .now) (c .before .before .before .before .before .before .before .clear .ensures) p11
+    λ x m.
+    zero-rows-from (a .y .now) (c .before .before .before .before .before .before .before .clear .ensures)
+    (products-at (set .l) (a .public .now) (set .v) x (set .l * set .l) (c .before .before .before .before .p11-number .ensures .is) (c .before .before .add-products .ensures x m))
 
 pub load-products-spec : {M : Type 1} → statement M
 load-products-spec =
