@@ -15,7 +15,8 @@ use lib.Dec.{T, eqb, ltb, eqb→eq, ltb→lt}
 use Rattle.ground.specs.Pick.{pick}
 use Rattle.ground.specs.Tests.{every, below, below2, below3}
 use Rattle.field.specs.Field.{add, times, mul, inverse, inverseBelow, chosenOf}
-use Rattle.field.specs.Checked.{comm-test, assoc-test, distrib-test, range-test, one-test, zero-test, inverse-test, inverse-range-test, fourteen-test, twice-test, chosen-test}
+use Rattle.field.specs.Checked.{comm-test, assoc-test, distrib-test, range-test, one-test, zero-test}
+use Rattle.field.specs.Checked.{inverse-test, inverse-range-test, fourteen-test, twice-test, chosen-test}
 
 -- ---- sums
 

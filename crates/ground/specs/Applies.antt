@@ -1,5 +1,5 @@
 -- "The lowest number that applies is given" (page 01, "Numbers a caller can receive"), said of any list of refusals: when a refusal applies, when it is the
--- lowest that does, when none does; and that `lowest` picks exactly that, where the numbers rise. Rests on Answers.
+-- lowest that does, when none does; and that `lowest` picks exactly that, where the numbers rise. Rests on Answers and Tests.
 use mathlib.Core.Path.{_≡_, refl, sym, ap, subst, _∙_}
 use mathlib.Core.Bool.{Bool, true, false}
 use mathlib.Core.Logic.{_↔_, _⊎_, inl, inr, ⊎-elim}
@@ -9,6 +9,7 @@ use native.Mathlib.Decide.{ℕ-discrete}
 use native.Mathlib.Omega.{arith}
 use lib.Dec.{T, ltb, ltb→lt}
 use Rattle.ground.specs.Pick.{both}
+use Rattle.ground.specs.Tests.{both-first, both-rest}
 use Rattle.ground.specs.Answers.{Rule, lowest}
 
 -- refusal n applies: there is a rule with this number whose condition is not met
@@ -35,18 +36,10 @@ rising a (r ∷ rs) = both (ltb a (r .number)) (rising (r .number) rs)
 -- ---- the first rule, and those after it
 
 first-above : (a : ℕ) (r : Rule) (rs : List Rule) → T (rising a (r ∷ rs)) → a < r .number
-first-above a r rs t = by (ltb a (r .number)) refl t
-  where
-    by : (b : Bool) → ltb a (r .number) ≡ b → T (both b (rising (r .number) rs)) → a < r .number
-    by true e u = ltb→lt a (r .number) (rw e tt)
-    by false e u = absurd u
+first-above a r rs t = ltb→lt a (r .number) (both-first (ltb a (r .number)) (rising (r .number) rs) t)
 
 rest-rising : (a : ℕ) (r : Rule) (rs : List Rule) → T (rising a (r ∷ rs)) → T (rising (r .number) rs)
-rest-rising a r rs t = by (ltb a (r .number)) t
-  where
-    by : (b : Bool) → T (both b (rising (r .number) rs)) → T (rising (r .number) rs)
-    by true u = u
-    by false u = absurd u
+rest-rising a r rs t = both-rest (ltb a (r .number)) (rising (r .number) rs) t
 
 applies-later : {n : ℕ} {r : Rule} {rs : List Rule} → Applies n rs → Applies n (r ∷ rs)
 applies-later p = record { rule = p .rule; listed = List·Memᴰ·tail (p .listed); numbered = p .numbered; unmet = p .unmet }

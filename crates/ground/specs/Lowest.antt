@@ -1,5 +1,5 @@
 -- More laws of the lowest refusal: no refusal is every rule met, where no number is 0; and the answer is listed.
--- Rests on Answers.
+-- Rests on Answers and Tests.
 use mathlib.Core.Path.{_≡_, refl}
 use mathlib.Core.Bool.{Bool, true, false}
 use mathlib.Core.List.{List, [], _∷_, List·Memᴰ, List·Memᴰ·head, List·Memᴰ·tail, List·Memᴰ·cases-cons}
@@ -8,6 +8,7 @@ use mathlib.Core.Logic.{_⊎_, inl, inr}
 use native.Mathlib.Omega.{arith}
 use lib.Dec.{T, ltb, ltb→lt}
 use Rattle.ground.specs.Pick.{pick, both}
+use Rattle.ground.specs.Tests.{both-first, both-rest}
 use Rattle.ground.specs.Answers.{Rule, unless, lowest, Met, met-none, met-more}
 
 -- the numbers of the rules, in order
@@ -21,18 +22,10 @@ numbered [] = true
 numbered (r ∷ rs) = both (ltb 0 (r .number)) (numbered rs)
 
 first-numbered : (r : Rule) (rs : List Rule) → T (numbered (r ∷ rs)) → 0 < r .number
-first-numbered r rs t = by (ltb 0 (r .number)) refl t
-  where
-    by : (b : Bool) → ltb 0 (r .number) ≡ b → T (both b (numbered rs)) → 0 < r .number
-    by true e u = ltb→lt 0 (r .number) (rw e tt)
-    by false e u = absurd u
+first-numbered r rs t = ltb→lt 0 (r .number) (both-first (ltb 0 (r .number)) (numbered rs) t)
 
 rest-numbered : (r : Rule) (rs : List Rule) → T (numbered (r ∷ rs)) → T (numbered rs)
-rest-numbered r rs t = by (ltb 0 (r .number)) t
-  where
-    by : (b : Bool) → T (both b (numbered rs)) → T (numbered rs)
-    by true u = u
-    by false u = absurd u
+rest-numbered r rs t = both-rest (ltb 0 (r .number)) (numbered rs) t
 
 -- no refusal: every rule is met
 pub met-of-lowest : (rs : List Rule) → T (numbered rs) → lowest rs ≡ 0 → Met rs

@@ -38,7 +38,10 @@ kept-zero false = refl
 pub terms-start : (l : ℕ) (c : ℕ → ℕ) {b : List ℕ} → b ≡ noBlock → b ≡ block l (terms l c 0)
 unfolding noBlock
 terms-start l c e =
-    e ∙ block-ext (tab 25 (λ e. 0)) l zeroM (length-tab 25 _) (λ k h. cell-kept l zeroM k (getD-tab 25 (λ e. 0) k h ∙ kept-zero (inside l k)) (λ hr hc. refl)) ∙ ap (block l) (sym (terms-none l c))
+    e
+    ∙ block-ext (tab 25 (λ e. 0)) l zeroM (length-tab 25 _)
+    (λ k h. cell-kept l zeroM k (getD-tab 25 (λ e. 0) k h ∙ kept-zero (inside l k)) (λ hr hc. refl))
+    ∙ ap (block l) (sym (terms-none l c))
 
 -- all of them are Algorithm 1's element
 pub terms-all : (l : ℕ) (a : ℕ → ℕ) → terms l (coefficient l a) l ≡ algorithm1 l a

@@ -128,7 +128,7 @@ getD-packed es j =
           )
     ]
 
-pub bytes-packed : (es : List ℕ) → inField es ≡ true → Bytes (packed es)
+bytes-packed : (es : List ℕ) → inField es ≡ true → Bytes (packed es)
 unfolding byteOf
 bytes-packed es t = record { below = λ j. omega (arith, getD-packed es j, in-field-lt es t (2 * j), in-field-lt es t (2 * j + 1)) }
 

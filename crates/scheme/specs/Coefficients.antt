@@ -21,7 +21,8 @@ use Rattle.matrix.specs.RingLaws.{S-base}
 use Rattle.scheme.specs.Streams.{blockOf, targetOf, A, B, Q1, Q2, P11, P12, P21, T12}
 use Rattle.scheme.specs.Maps.{sumM, matrixIndex, F12, F21, vinegarPart, linearPart}
 use Rattle.scheme.specs.Parts.{parts-12, parts-21}
-use Rattle.scheme.specs.Oil.{entryAt, oilFrom, SentToZero, Solves, OnlyZero, Redo, square-pos, last-digit, by-number, entry-block, entries-oilFrom, oil-from, zero-from, oil-unknowns, zero-unknowns, solves-linear}
+use Rattle.scheme.specs.Oil.{entryAt, oilFrom, SentToZero, Solves, OnlyZero, Redo, solves-linear}
+use Rattle.scheme.specs.Oil.{square-pos, last-digit, by-number, entry-block, entries-oilFrom, oil-from, zero-from, oil-unknowns, zero-unknowns}
 use Rattle.scheme.specs.Regroup.{q1Of, q2Of, powerTimes}
 
 module _ (set : Set) (public abq private : List ℕ) (vinegar : ℕ → Matrix) where

@@ -23,7 +23,8 @@ use Rattle.field.specs.Field.{add, mul, times}
 use Rattle.field.specs.Laws as Field
 use Rattle.packing.specs.Packing.{packedBytes}
 use Rattle.sets.specs.declared.Set.{Set}
-use Rattle.sets.specs.Sets.{leastL, mostL, allowedSet, terms, variables, publicCount, abqCount, targetCount, keyCount, signatureCount, publicBytes, abqBytes, targetBytes, keyBytes, signatureBytes}
+use Rattle.sets.specs.Sets.{leastL, mostL, allowedSet, terms, variables, publicCount, abqCount, targetCount, keyCount, signatureCount}
+use Rattle.sets.specs.Sets.{publicBytes, abqBytes, targetBytes, keyBytes, signatureBytes}
 use Rattle.refusals.specs.Rules.{verdictRules}
 use Rattle.sets.specs.Bounds.{Limits, limits}
 use Rattle.matrix.specs.Matrix.{Matrix, zeroM, addM, mulM, transpose, scaleM}
@@ -275,5 +276,6 @@ own-matrix-only-one set allowed agree = elim (decLt 1 (set .o)) [ yes many ↦ a
     never : 1 < set .o → ⊥
     never many =
         let h = limits set allowed in
-        let zero-total : (x : ℕ) → x < 2 → total set h many (matrixIndex set) x 0 0 ≡ 0 = λ x few. agree-zero set h many x (omega arith) (agree _ _ _ _ _ (taken set h many x few allowed) 0 (omega arith)) in
+        let zero-total : (x : ℕ) → x < 2 → total set h many (matrixIndex set) x 0 0 ≡ 0 =
+        λ x few. agree-zero set h many x (omega arith) (agree _ _ _ _ _ (taken set h many x few allowed) 0 (omega arith)) in
         not-both-zero set h many (ap₂ add (zero-total 1 (omega arith)) (zero-total 0 (omega arith)) ∙ Field.add-zero 0)

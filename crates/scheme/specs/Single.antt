@@ -13,7 +13,6 @@ use lib.Dec.{eqb}
 use lib.ListN.{length, List·getD-eq-default}
 use Rattle.ground.specs.Pick.{pick}
 use Rattle.ground.specs.Fill.{tab, length-tab, getD-tab}
-use Rattle.algebra.specs.Ring.{zero-mul, mul-zero}
 use Rattle.algebra.specs.Sum.{sum-zeros, sum-one}
 use Rattle.field.specs.Field.{mul}
 use Rattle.field.specs.Laws as Field
