@@ -1,9 +1,10 @@
 -- The maps of page 01, over any ring: the sum over alpha, j and k, and the double sum over j and k in it.
 -- The public and the central map are `value` at P and at F. Rests on Ring and Sum.
 use mathlib.Core.Path.{_≡_, _∙_}
+use mathlib.Core.Logic.{_≢_}
 use Prim.Native.Nat.{ℕ, _+_, _<_}
-use Rattle.algebra.specs.Ring.{Ring, mul-zero, zero-mul}
-use Rattle.algebra.specs.Sum.{sum, sum-cong, sum-zeros, mul-sum, sum-mul, tr-sum, sum-swap, double-add, double-split}
+use Rattle.algebra.specs.Ring.{Ring, mul-zero, zero-mul, tr-zero}
+use Rattle.algebra.specs.Sum.{sum, sum-cong, sum-zeros, sum-one, mul-sum, sum-mul, tr-sum, sum-swap, double-add, double-split}
 
 module _ {A : Type 0} (𝟘 : A) (_⊕_ _⊗_ : A → A → A) (tr : A → A) where
   infixr 70 _⊗_
@@ -36,6 +37,15 @@ module _ {A : Type 0} {𝟘 : A} {_⊕_ _⊗_ : A → A → A} {tr : A → A} (R
       → value 𝟘 _⊕_ _⊗_ tr terms n L q M p B U ≡ 𝟘
   unfolding value
   value-zero terms n L q M p B e = sum-zeros R terms (λ α h. sum-zeros R n (λ j hj. sum-zeros R n (λ k hk. simp (e k hk, zero-mul R, mul-zero R))))
+
+  -- Only the first of the U is not zero.
+  pub value-first : (terms n : ℕ) → 0 < n → (L q : ℕ → A) (M : ℕ → ℕ → ℕ → A) (p B U : ℕ → A) → ((j : ℕ) → j ≢ 0 → U j ≡ 𝟘)
+      → value 𝟘 _⊕_ _⊗_ tr terms n L q M p B U ≡ sum 𝟘 _⊕_ terms (λ α. L α ⊗ tr (U 0) ⊗ q α ⊗ M α 0 0 ⊗ p α ⊗ U 0 ⊗ B α)
+  unfolding value
+  value-first terms n some L q M p B U e =
+      sum-cong R terms (λ α h.
+      sum-one R n 0 _ some (λ j hj d. sum-zeros R n (λ k hk. simp (e j d, tr-zero R, zero-mul R, mul-zero R)))
+      ∙ sum-one R n 0 _ some (λ k hk d. simp (e k d, zero-mul R, mul-zero R)))
 
   -- A and B come out of the double sum.
   pub value-quad : (terms n : ℕ) (L q : ℕ → A) (M : ℕ → ℕ → ℕ → A) (p B U : ℕ → A)

@@ -3,7 +3,6 @@
 use mathlib.Core.Path.{_≡_, refl, sym, ap, _∙_}
 use Prim.Native.Nat.{ℕ, zero, suc, _+_}
 use native.Mathlib.Nat.{zero-add as zero-plus, add-comm as plus-comm, suc-add as suc-plus}
-use native.Mathlib.Numerals.{add-one}
 use Rattle.algebra.specs.Ring.{Ring, Scaled}
 use Rattle.algebra.specs.Sum.{sum, sum-commutes, tr-sum}
 
@@ -27,25 +26,17 @@ polynomial 𝟘 _⊕_ _⊗_ scale e s n c = sum 𝟘 _⊕_ n (λ k. scale (c k) 
 
 module _ {A : Type 0} {𝟘 : A} {_⊕_ _⊗_ : A → A → A} {tr : A → A} (R : Ring 𝟘 _⊕_ _⊗_ tr) {e s : A} (S : Base _⊗_ tr e s) where
   infixr 70 _⊗_
-  pub power-none : power _⊗_ e s 0 ≡ e
-  unfolding power
-  power-none = refl
-
-  pub power-more : (k : ℕ) → power _⊗_ e s (k + 1) ≡ s ⊗ power _⊗_ e s k
-  unfolding power
-  power-more k = rw (add-one k) refl
-
   one-power : (k : ℕ) → e ⊗ power _⊗_ e s k ≡ power _⊗_ e s k
   unfolding power
   one-power zero = S .one-one
   one-power (suc k) = sym (R .mul-assoc e s _) ∙ rw (S .one-mul) refl
 
-  pub power-add : (j k : ℕ) → power _⊗_ e s j ⊗ power _⊗_ e s k ≡ power _⊗_ e s (j + k)
+  power-add : (j k : ℕ) → power _⊗_ e s j ⊗ power _⊗_ e s k ≡ power _⊗_ e s (j + k)
   unfolding power
   power-add zero k = rw (zero-plus k) (one-power k)
   power-add (suc j) k = rw (suc-plus j k, R .mul-assoc) (ap (λ x. s ⊗ x) (power-add j k))
 
-  pub power-comm : (j k : ℕ) → power _⊗_ e s j ⊗ power _⊗_ e s k ≡ power _⊗_ e s k ⊗ power _⊗_ e s j
+  power-comm : (j k : ℕ) → power _⊗_ e s j ⊗ power _⊗_ e s k ≡ power _⊗_ e s k ⊗ power _⊗_ e s j
   power-comm j k = power-add j k ∙ rw (plus-comm j k) (sym (power-add k j))
 
   pub power-one : power _⊗_ e s 1 ≡ s

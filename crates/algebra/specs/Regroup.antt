@@ -10,7 +10,7 @@ use Rattle.algebra.specs.Powers.{Base, power, polynomial, power-tr}
 module _ {A : Type 0} {𝟘 : A} {_⊕_ _⊗_ : A → A → A} {tr : A → A} (R : Ring 𝟘 _⊕_ _⊗_ tr) {e s : A} (S : Base _⊗_ tr e s)
     {scale : ℕ → A → A} (C : Scaled _⊕_ _⊗_ tr scale) where
   infixr 70 _⊗_
-  pub quad-regroup : (m n : ℕ) (a b : ℕ → ℕ) (M : ℕ → ℕ → A) (U : ℕ → A)
+  quad-regroup : (m n : ℕ) (a b : ℕ → ℕ) (M : ℕ → ℕ → A) (U : ℕ → A)
       → quad 𝟘 _⊕_ _⊗_ tr m m U (λ j k. polynomial 𝟘 _⊕_ _⊗_ scale e s n a ⊗ M j k ⊗ polynomial 𝟘 _⊕_ _⊗_ scale e s n b) U
       ≡ sum 𝟘 _⊕_ n (λ x. sum 𝟘 _⊕_ n (λ y. scale (a x) (scale (b y)
       (quad 𝟘 _⊕_ _⊗_ tr m m (λ j. power _⊗_ e s x ⊗ U j) M (λ k. power _⊗_ e s y ⊗ U k)))))

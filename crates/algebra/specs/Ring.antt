@@ -42,7 +42,7 @@ module _ {A : Type 0} {𝟘 : A} {_⊕_ _⊗_ : A → A → A} {tr : A → A} (R
   add-self-left a b = sym (R .add-assoc a a b) ∙ rw (R .add-self a) (zero-add b)
 
   -- Plus is its own minus.
-  pub add-move : {a b c : A} → a ⊕ b ≡ c → a ≡ c ⊕ b
+  add-move : {a b c : A} → a ⊕ b ≡ c → a ≡ c ⊕ b
   add-move {a} {b} e = rw (← e, R .add-assoc, R .add-self) (sym (R .add-zero a))
 
   pub add-move-left : {a b c : A} → a ⊕ b ≡ c → b ≡ a ⊕ c
@@ -64,6 +64,3 @@ module _ {A : Type 0} {𝟘 : A} {_⊕_ _⊗_ : A → A → A} {tr : A → A} (R
 
   pub tr-zero : tr 𝟘 ≡ 𝟘
   tr-zero = additive-zero R tr (R .tr-add)
-
-  pub scale-zero : {scale : ℕ → A → A} → Scaled _⊕_ _⊗_ tr scale → (c : ℕ) → scale c 𝟘 ≡ 𝟘
-  scale-zero {scale} C c = additive-zero R (scale c) (C .scale-add c)

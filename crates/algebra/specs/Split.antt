@@ -2,7 +2,7 @@
 -- This is what signing solves. Rests on Map and Sum.
 use mathlib.Core.Path.{_≡_, refl, sym, ap, ap₂, _∙_}
 use Prim.Native.Nat.{ℕ, _+_, _<_}
-use Rattle.algebra.specs.Ring.{Ring, Scaled, mul-zero, zero-mul, tr-zero, add-left-comm}
+use Rattle.algebra.specs.Ring.{Ring, Scaled, mul-zero, zero-mul, add-left-comm}
 use Rattle.algebra.specs.Sum.{sum, sum-cong, sum-zeros, sum-add, mul-sum, sum-mul, scale-sum, sum-swap, double-add, double-split}
 use Rattle.algebra.specs.Map.{value}
 
@@ -42,18 +42,6 @@ module _ {A : Type 0} {𝟘 : A} {_⊕_ _⊗_ : A → A → A} {tr : A → A} (R
           ∙ ap₂ _⊕_ (sum-cong R v (λ j hj. sum-cong R v (λ k hk. cc (e-vinegar j hj, e-vinegar k hk))))
           (sym (double-add R v o _ _) ∙ sum-cong R v (λ j hj. sum-cong R o (λ k hk. cc (e-vinegar j hj, e-oil k hk))))
 
-  pub linearPart-cong : (terms v o : ℕ) {L L′ q q′ p p′ B B′ vinegar vinegar′ oil oil′ : ℕ → A} (M M′ : ℕ → ℕ → ℕ → A)
-      → ((α : ℕ) → α < terms → L α ≡ L′ α) → ((α : ℕ) → α < terms → q α ≡ q′ α)
-      → ((α j k : ℕ) → α < terms → j < v → k < o → M α j (v + k) ≡ M′ α j (v + k))
-      → ((α k j : ℕ) → α < terms → k < o → j < v → M α (v + k) j ≡ M′ α (v + k) j)
-      → ((α : ℕ) → α < terms → p α ≡ p′ α) → ((α : ℕ) → α < terms → B α ≡ B′ α)
-      → ((j : ℕ) → j < v → vinegar j ≡ vinegar′ j) → ((k : ℕ) → k < o → oil k ≡ oil′ k)
-      → linearPart 𝟘 _⊕_ _⊗_ tr terms v o L q M p B vinegar oil ≡ linearPart 𝟘 _⊕_ _⊗_ tr terms v o L′ q′ M′ p′ B′ vinegar′ oil′
-  unfolding linearPart
-  linearPart-cong terms v o M M′ eL eq e12 e21 ep eB e-vinegar e-oil =
-      sum-cong R terms (λ α h. sum-cong R v (λ j hj. sum-cong R o (λ k hk.
-      cc (eL α h, eq α h, e12 α j k h hj hk, e21 α k j h hk hj, ep α h, eB α h, e-vinegar j hj, e-oil k hk))))
-
   -- The linear part by oil index. What stands before oil k and what stands after it are sums over the vinegar.
   pub linearPart-by-oil : (terms v o : ℕ) (L q : ℕ → A) (M : ℕ → ℕ → ℕ → A) (p B vinegar oil : ℕ → A)
       → linearPart 𝟘 _⊕_ _⊗_ tr terms v o L q M p B vinegar oil
@@ -73,11 +61,6 @@ module _ {A : Type 0} {𝟘 : A} {_⊕_ _⊗_ : A → A → A} {tr : A → A} (R
     linearPart-add oil oil′ =
         sum-cong R terms (λ α h. sum-cong R v (λ j hj. sum-cong R o (λ k hk.
         simp (R .tr-add, R .mul-add, R .add-mul, R .add-assoc, add-left-comm R))) ∙ double-add R v o _ _) ∙ sum-add R terms _ _
-
-    pub linearPart-zero : {oil : ℕ → A} → ((k : ℕ) → k < o → oil k ≡ 𝟘) → linearPart 𝟘 _⊕_ _⊗_ tr terms v o L q M p B vinegar oil ≡ 𝟘
-    unfolding linearPart
-    linearPart-zero e = sum-zeros R terms (λ α h. sum-zeros R v (λ j hj. sum-zeros R o (λ k hk.
-        simp (e k hk, tr-zero R, zero-mul R, mul-zero R, R .add-zero))))
 
     pub linearPart-scale : {scale : ℕ → A → A} → Scaled _⊕_ _⊗_ tr scale → (c : ℕ) (oil : ℕ → A)
         → linearPart 𝟘 _⊕_ _⊗_ tr terms v o L q M p B vinegar (λ k. scale c (oil k)) ≡ scale c (linearPart 𝟘 _⊕_ _⊗_ tr terms v o L q M p B vinegar oil)

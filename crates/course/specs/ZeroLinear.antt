@@ -2,7 +2,7 @@
 -- Rests on scheme's linear part and oil choices, and on tables' places of P11, P12, P21 in the public stream.
 use mathlib.Core.Path.{_≡_, refl}
 use mathlib.Core.List.{List}
-use Prim.Native.Nat.{ℕ, _*_, _<_}
+use Prim.Native.Nat.{ℕ, _<_}
 use native.Mathlib.Omega.{arith}
 use Rattle.algebra.specs.Ring.{mul-zero, zero-mul}
 use Rattle.algebra.specs.Sum.{sum-zeros}
@@ -89,7 +89,7 @@ module _ (set : Set) (public private : List ℕ) (zeros : (e : ℕ) → e < publ
 
 module _ {set : Set} {public abq private : List ℕ} {vinegar : ℕ → Matrix} where
   -- where every oil is sent to zero, so is the oil whose entries are all 1
-  pub all-sent-redo : 0 < set .o → 0 < set .l → ((oil : ℕ → Matrix) → SentToZero set public abq private vinegar oil) → Redo set public abq private vinegar
+  all-sent-redo : 0 < set .o → 0 < set .l → ((oil : ℕ → Matrix) → SentToZero set public abq private vinegar oil) → Redo set public abq private vinegar
   all-sent-redo some-o some-l sent = record {
     choice = λ k r c. 1;
     oil = record { element = λ k r c hk hr hc. omega arith };

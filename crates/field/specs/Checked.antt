@@ -1,15 +1,15 @@
 -- The finite part of the field's laws: each is one test that the prover computes over all elements.
 -- Rests on Field; Laws.antt turns the tests into laws of all numbers.
 use mathlib.Core.Path.{_≡_, refl}
-use mathlib.Core.Bool.{Bool, true, false}
-use mathlib.Core.List.{List, [], _∷_}
-use Prim.Native.Nat.{ℕ, _+_, _*_, _/_, _%_}
+use mathlib.Core.Bool.{true}
+use mathlib.Core.List.{[], _∷_}
+use Prim.Native.Nat.{_*_, _/_, _%_}
 use lib.Dec.{T, eqb, ltb}
 use lib.Bits.{bitXor}
-use Rattle.ground.specs.Pick.{pick, both}
+use Rattle.ground.specs.Pick.{pick}
 use Rattle.ground.specs.Tests.{every}
 use Rattle.ground.specs.Fill.{tab}
-use Rattle.field.specs.Field.{add, timesX, times, mul, inverse, power, chosenOf}
+use Rattle.field.specs.Field.{times, mul, inverse, power, chosenOf}
 
 pub comm-test : T (every 16 (λ a. every 16 (λ b. eqb (times a b) (times b a))))
 unfolding times

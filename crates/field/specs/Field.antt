@@ -1,8 +1,7 @@
 -- GF(16): elements 0 to 15 are polynomials over GF(2) modulo x⁴ + x + 1 (page 01, "Field and packing"). Bit k is the coefficient of x to the k.
 -- Sums and products are defined on all numbers, products read them modulo 16: so the laws of Laws.antt hold with no bound on anything.
 -- Rests on the kit's exclusive or.
-use mathlib.Core.Bool.{Bool}
-use Prim.Native.Nat.{ℕ, zero, suc, _+_, _*_, _/_, _%_}
+use Prim.Native.Nat.{ℕ, zero, suc, _*_, _/_, _%_}
 use lib.Bits.{bitXor}
 use lib.Dec.{eqb, ltb}
 use Rattle.ground.specs.Pick.{pick}

@@ -1,21 +1,22 @@
 -- The laws of GF(16), on all numbers; only `one-mul`, `mul-inverse` and `mul-zero-cases` ask for elements below 16.
 -- Rests on the computed tests of Checked.antt, and on the kit's laws of exclusive or.
 use mathlib.Core.Path.{_≡_, refl, sym, ap, ap₂, _∙_}
-use mathlib.Core.Bool.{Bool, true, false}
+use mathlib.Core.Bool.{true}
 use mathlib.Core.Logic.{_⊎_, inl, inr}
 use Prim.Native.Nat.{ℕ, zero, suc, _+_, _*_, _/_, _%_, _^_, _<_}
-use native.Mathlib.Nat.{mod-lt, mod-eq-of-lt, mod-mod, div-add-mod'}
+use native.Mathlib.Nat.{mod-eq-of-lt, mod-mod, div-add-mod'}
 use native.Mathlib.Decide.{ℕ-discrete}
 use native.Mathlib.Omega.{arith}
-use borrow.Author.Tests.{eqb-true, eqb-false, eq-eqb, ne-eqb}
+use borrow.Author.Tests.{eq-eqb, ne-eqb}
 use lib.Arith.{bin-ind}
 use lib.Bits.{bitXor, xor-comm, xor-zero-l, xor-zero-r, xor-self, xor-lt, xor-shr, xor-mod}
 use lib.Pow.{field, mod-mod-pow}
 use lib.Dec.{T, eqb, ltb, eqb→eq, ltb→lt}
 use Rattle.ground.specs.Pick.{pick}
 use Rattle.ground.specs.Tests.{every, below, below2, below3}
-use Rattle.field.specs.Field.{add, timesX, times, mul, inverse, inverseBelow, chosenOf}
-use Rattle.field.specs.Checked.{comm-test, assoc-test, distrib-test, range-test, one-test, zero-test, inverse-test, inverse-range-test, fourteen-test, twice-test, chosen-test}
+use Rattle.field.specs.Field.{add, times, mul, inverse, inverseBelow, chosenOf}
+use Rattle.field.specs.Checked.{comm-test, assoc-test, distrib-test, range-test, one-test, zero-test}
+use Rattle.field.specs.Checked.{inverse-test, inverse-range-test, fourteen-test, twice-test, chosen-test}
 
 -- ---- sums
 

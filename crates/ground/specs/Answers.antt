@@ -42,12 +42,6 @@ unfolding lowest
 lowest-met met-none = refl
 lowest-met (met-more {r = r} {rs = rs} e m) = rw e (lowest-met m)
 
--- the number given is that of the first rule that is not met
-pub lowest-first : {before : List Rule} (n : ℕ) (after : List Rule) → Met before → lowest (before ++ (unless n false ∷ after)) ≡ n
-unfolding lowest
-lowest-first n after met-none = refl
-lowest-first n after (met-more {r = r} {rs = rs} e m) = rw e (lowest-first n after m)
-
 -- rules that follow others are looked at where those before are all met
 pub lowest-append : {rs : List Rule} (rs′ : List Rule) → Met rs → lowest (rs ++ rs′) ≡ lowest rs′
 unfolding lowest

@@ -2,7 +2,7 @@
 -- Rests on the kit's lists.
 use mathlib.Core.Path.{_≡_, refl, sym, ap, _∙_}
 use mathlib.Core.List.{List, [], _∷_, _++_}
-use Prim.Native.Nat.{ℕ, zero, suc, _+_, _<_, _≤_}
+use Prim.Native.Nat.{ℕ, zero, suc, _<_}
 use native.Mathlib.Nat.{not-suc-le-zero}
 use native.Mathlib.Decide.{decLt}
 use native.Mathlib.Omega.{arith}
@@ -30,3 +30,7 @@ getD-tab (suc n) f k h =
 -- a list is the table of its own places
 pub tab-ext : (s : List ℕ) (n : ℕ) (f : ℕ → ℕ) → length s ≡ n → ((k : ℕ) → k < n → getD s k 0 ≡ f k) → s ≡ tab n f
 tab-ext s n f e h = ext-getD 0 s (tab n f) (e ∙ sym (length-tab n f)) (λ k l. h k (omega arith) ∙ sym (getD-tab n f k (omega arith)))
+
+-- the same rule gives the same list
+pub tab-cong : (n : ℕ) (f g : ℕ → ℕ) → ((k : ℕ) → k < n → f k ≡ g k) → tab n f ≡ tab n g
+tab-cong n f g e = tab-ext (tab n f) n g (length-tab n f) (λ k h. getD-tab n f k h ∙ e k h)

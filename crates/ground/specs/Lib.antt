@@ -6,4 +6,5 @@ pub mod Place
 pub mod Answers
 pub mod AnswerLaws
 pub mod Lowest
+pub mod Applies
 pub mod Outcome

@@ -1,14 +1,14 @@
--- More laws of the lowest refusal, for lists whose numbers are not 0: no refusal is every rule met, the answer is listed, and what rules added at the end change.
--- Rests on Answers.
+-- More laws of the lowest refusal: no refusal is every rule met, where no number is 0; and the answer is listed.
+-- Rests on Answers and Tests.
 use mathlib.Core.Path.{_≡_, refl}
 use mathlib.Core.Bool.{Bool, true, false}
-use mathlib.Core.List.{List, [], _∷_, _++_, List·Memᴰ, List·Memᴰ·head, List·Memᴰ·tail, List·Memᴰ·cases-cons}
+use mathlib.Core.List.{List, [], _∷_, List·Memᴰ, List·Memᴰ·head, List·Memᴰ·tail, List·Memᴰ·cases-cons}
 use Prim.Native.Nat.{ℕ, _<_}
 use mathlib.Core.Logic.{_⊎_, inl, inr}
 use native.Mathlib.Omega.{arith}
-use lib.Dec.{T, ltb, ltb→lt, eqb}
-use borrow.Author.Tests.{ne-eqb}
+use lib.Dec.{T, ltb, ltb→lt}
 use Rattle.ground.specs.Pick.{pick, both}
+use Rattle.ground.specs.Tests.{both-first, both-rest}
 use Rattle.ground.specs.Answers.{Rule, unless, lowest, Met, met-none, met-more}
 
 -- the numbers of the rules, in order
@@ -22,18 +22,10 @@ numbered [] = true
 numbered (r ∷ rs) = both (ltb 0 (r .number)) (numbered rs)
 
 first-numbered : (r : Rule) (rs : List Rule) → T (numbered (r ∷ rs)) → 0 < r .number
-first-numbered r rs t = by (ltb 0 (r .number)) refl t
-  where
-    by : (b : Bool) → ltb 0 (r .number) ≡ b → T (both b (numbered rs)) → 0 < r .number
-    by true e u = ltb→lt 0 (r .number) (rw e tt)
-    by false e u = absurd u
+first-numbered r rs t = ltb→lt 0 (r .number) (both-first (ltb 0 (r .number)) (numbered rs) t)
 
 rest-numbered : (r : Rule) (rs : List Rule) → T (numbered (r ∷ rs)) → T (numbered rs)
-rest-numbered r rs t = by (ltb 0 (r .number)) t
-  where
-    by : (b : Bool) → T (both b (numbered rs)) → T (numbered rs)
-    by true u = u
-    by false u = absurd u
+rest-numbered r rs t = both-rest (ltb 0 (r .number)) (numbered rs) t
 
 -- no refusal: every rule is met
 pub met-of-lowest : (rs : List Rule) → T (numbered rs) → lowest rs ≡ 0 → Met rs
@@ -58,17 +50,6 @@ lowest-listed (r ∷ rs) = by (r .met) (lowest-listed rs)
     by : (b : Bool) → List·Memᴰ (lowest rs) (0 ∷ numbers rs) → List·Memᴰ (pick b (lowest rs) (r .number)) (0 ∷ (r .number ∷ numbers rs))
     by true m = further (List·Memᴰ·cases-cons m)
     by false m = List·Memᴰ·tail (List·Memᴰ·head refl)
-
--- rules added at the end count where there was no refusal before
-pub lowest-then : (rs rs′ : List Rule) → T (numbered rs) → lowest (rs ++ rs′) ≡ pick (eqb (lowest rs) 0) (lowest rs′) (lowest rs)
-unfolding lowest
-lowest-then [] rs′ t = refl
-lowest-then (r ∷ rs) rs′ t = by (r .met) (lowest-then rs rs′ (rest-numbered r rs t))
-  where
-    by : (b : Bool) → lowest (rs ++ rs′) ≡ pick (eqb (lowest rs) 0) (lowest rs′) (lowest rs)
-        → pick b (lowest (rs ++ rs′)) (r .number) ≡ pick (eqb (pick b (lowest rs) (r .number)) 0) (lowest rs′) (pick b (lowest rs) (r .number))
-    by true h = h
-    by false h = let p = first-numbered r rs t in rw (ne-eqb (r .number) 0 (omega arith))
 
 -- no refusal: the first rule is met, and so is the rest
 pub lowest-passes : (n : ℕ) (met : Bool) (rs : List Rule) → (n ≡ 0 → ⊥) → lowest (unless n met ∷ rs) ≡ 0 → (met ≡ true) × (lowest rs ≡ 0)

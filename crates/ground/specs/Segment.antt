@@ -1,13 +1,14 @@
 -- A part of a list is written by a rule, and all else stays: what a loop that writes a part of a slice has done so far.
--- Rests on the kit's lists.
-use mathlib.Core.Path.{_≡_, refl, sym, ap, _∙_}
+-- Rests on Fill and on the kit's lists.
+use mathlib.Core.Path.{_≡_, refl, sym, ap, subst, _∙_}
 use mathlib.Core.List.{List}
-use Prim.Native.Nat.{ℕ, zero, suc, _+_, _-_, _<_, _≤_}
-use native.Mathlib.Nat.{not-suc-le-zero}
+use Prim.Native.Nat.{ℕ, _+_, _-_, _<_, _≤_}
+use native.Mathlib.Nat.{zero-add, not-suc-le-zero}
 use native.Mathlib.Decide.{decLt}
 use native.Mathlib.Omega.{arith}
 use lib.ListN.{length, getD, set, length-set}
 use lib.Seq.{getD-set-same, getD-set-other, ext-getD}
+use Rattle.ground.specs.Fill.{tab, tab-ext}
 
 -- t is s with f 0, .. , f (n - 1) written at the places base, .. , base + n - 1
 pub record Segment (s : List ℕ) (base n : ℕ) (f : ℕ → ℕ) (t : List ℕ) : Type 0 where
@@ -37,10 +38,6 @@ segment-next {s} {t} {base} {n} {f} g l x e =
       high = λ k h. getD-set-other t (base + n) k x 0 (omega arith) ∙ g .high k (omega arith);
     }
 
--- the same part by another rule that agrees on it
-pub segment-cong : {s t : List ℕ} {base n : ℕ} {f g : ℕ → ℕ} → ((k : ℕ) → k < n → f k ≡ g k) → Segment s base n f t → Segment s base n g t
-segment-cong e h = record { long = h .long; inside = λ k l. h .inside k l ∙ e k l; low = h .low; high = h .high }
-
 -- the part, its rule and the list before fix the list after
 pub segment-unique : {s t u : List ℕ} {base n : ℕ} {f : ℕ → ℕ} → Segment s base n f t → Segment s base n f u → t ≡ u
 segment-unique {s} {t} {u} {base} {n} {f} a b = ext-getD 0 t u (a .long ∙ sym (b .long)) place
@@ -57,3 +54,13 @@ segment-unique {s} {t} {u} {base} {n} {f} a b = ext-getD 0 t u (a .long ∙ sym 
                 | no m ↦ a .high k (omega arith) ∙ sym (b .high k (omega arith))
               ]
         ]
+
+-- ---- a list that a loop fills from its first place on
+
+-- one place more
+pub fill-next : {s t : List ℕ} {n : ℕ} {f : ℕ → ℕ} → Segment s 0 n f t → n < length s → (x : ℕ) → x ≡ f n → Segment s 0 (n + 1) f (set t n x)
+fill-next {s} {t} {n} {f} g l x e = subst (λ k. Segment s 0 (n + 1) f (set t k x)) (zero-add n) (segment-next g (omega arith) x e)
+
+-- and the whole list at the end
+pub fill-end : {s t : List ℕ} {n m : ℕ} {f : ℕ → ℕ} → Segment s 0 n f t → length s ≡ m → n ≡ m → t ≡ tab m f
+fill-end {s} {t} {n} {m} {f} g long all = tab-ext t m f (g .long ∙ long) (λ k l. ap (λ i. getD t i 0) (sym (zero-add k)) ∙ g .inside k (omega arith))

@@ -2,8 +2,8 @@
 -- Rests on Pick.
 use mathlib.Core.Path.{_≡_, refl, ap, ap₂, subst, sym, _∙_}
 use mathlib.Core.Bool.{Bool, true, false}
-use Prim.Native.Nat.{ℕ, zero, suc, _+_, _<_, _≤_}
-use native.Mathlib.Nat.{le-of-suc-le-suc, not-suc-le-zero}
+use Prim.Native.Nat.{ℕ, zero, suc, _+_, _<_}
+use native.Mathlib.Nat.{not-suc-le-zero}
 use native.Mathlib.Numerals.{add-one}
 use native.Mathlib.Decide.{decLt}
 use native.Mathlib.Omega.{arith}
@@ -15,18 +15,22 @@ abbrev pub every : ℕ → (ℕ → Bool) → Bool
 every zero f = true
 every (suc n) f = both (f n) (every n f)
 
-first : (a b : Bool) → T (both a b) → T a
-first true b t = tt
-first false b t = t
+-- a computed test of two is a test of each
+pub both-first : (a b : Bool) → T (both a b) → T a
+both-first true b t = tt
+both-first false b t = t
 
-rest : (a b : Bool) → T (both a b) → T b
-rest true b t = t
-rest false b t = absurd t
+pub both-rest : (a b : Bool) → T (both a b) → T b
+both-rest true b t = t
+both-rest false b t = absurd t
 
 pub below : (n : ℕ) (f : ℕ → Bool) → T (every n f) → (k : ℕ) → k < n → T (f k)
 below zero f t k h = absurd (not-suc-le-zero h)
 below (suc n) f t k h =
-    elim (decLt k n) [ yes l ↦ below n f (rest (f n) (every n f) t) k l | no l ↦ subst (λ (m : ℕ). T (f m)) (sym (omega arith)) (first (f n) (every n f) t) ]
+    elim (decLt k n) [
+      | yes l ↦ below n f (both-rest (f n) (every n f) t) k l
+      | no l ↦ subst (λ (m : ℕ). T (f m)) (sym (omega arith)) (both-first (f n) (every n f) t)
+    ]
 
 pub below2 : (n : ℕ) (f : ℕ → ℕ → Bool) → T (every n (λ a. every n (f a))) → (a b : ℕ) → a < n → b < n → T (f a b)
 below2 n f t a b ha hb = below n (f a) (below n (λ x. every n (f x)) t a ha) b hb

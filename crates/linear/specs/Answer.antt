@@ -22,7 +22,7 @@ use Rattle.linear.specs.Step.{Small, Reduced, Stepped}
 
 -- ---- every column is the identity's: y r = s r · t, for the right-hand side s and the vector's last entry t
 
-pub reduced-dot : {n : ℕ} {M : ℕ → ℕ → ℕ} → Reduced n n M → (y : ℕ → ℕ) (r : ℕ) → r < n → y r < 16
+reduced-dot : {n : ℕ} {M : ℕ → ℕ → ℕ} → Reduced n n M → (y : ℕ → ℕ) (r : ℕ) → r < n → y r < 16
     → dot (n + 1) M y r ≡ add (y r) (mul (M r n) (y n))
 unfolding dot
 reduced-dot {n} {M} m y r h l =
@@ -36,19 +36,19 @@ module _ {n : ℕ} {M : ℕ → ℕ → ℕ} (m : Reduced n n M) (y : ℕ → �
       reduced-dot m (beside n y t) r h (rw (beside-below n y t r h) (small r h))
       ∙ ap₂ (λ a b. add a (mul (M r n) b)) (beside-below n y t r h) (beside-last n y t)
 
-  pub zero-of-solved : ((r : ℕ) → r < n → y r ≡ mul (M r n) t) → Zero n M (beside n y t)
+  zero-of-solved : ((r : ℕ) → r < n → y r ≡ mul (M r n) t) → Zero n M (beside n y t)
   zero-of-solved e = record { row = λ r h. extended r h ∙ ap (λ x. add x (mul (M r n) t)) (e r h) ∙ add-self _ }
 
-  pub solved-of-zero : Zero n M (beside n y t) → (r : ℕ) → r < n → y r ≡ mul (M r n) t
+  solved-of-zero : Zero n M (beside n y t) → (r : ℕ) → r < n → y r ≡ mul (M r n) t
   solved-of-zero z r h = add-cancel field-ring (sym (extended r h) ∙ z .row r h)
 
 -- ---- the same of any matrix: the rows applied to y give t times the right-hand side
 
 module _ (n : ℕ) (M : ℕ → ℕ → ℕ) (y : ℕ → ℕ) (t : ℕ) where
-  pub zero-of-rows : ((r : ℕ) → r < n → dot n M y r ≡ mul (M r n) t) → Zero n M (beside n y t)
+  zero-of-rows : ((r : ℕ) → r < n → dot n M y r ≡ mul (M r n) t) → Zero n M (beside n y t)
   zero-of-rows e = record { row = λ r h. dot-beside n M y t r ∙ ap (λ x. add x (mul (M r n) t)) (e r h) ∙ add-self _ }
 
-  pub rows-of-zero : Zero n M (beside n y t) → (r : ℕ) → r < n → dot n M y r ≡ mul (M r n) t
+  rows-of-zero : Zero n M (beside n y t) → (r : ℕ) → r < n → dot n M y r ≡ mul (M r n) t
   rows-of-zero z r h = add-cancel field-ring (sym (dot-beside n M y t r) ∙ z .row r h)
 
 pub solution : {g : List ℕ} {n : ℕ} {N : ℕ → ℕ → ℕ} → Area g n → Stepped n n (at g n) N → Solution g n (λ c. N c n)
@@ -77,7 +77,7 @@ solution {g} {n} {N} a s = record { small = small; solves = solves; only = only;
 
 -- ---- column k has no entry from row k on: 1 at k, what stands in column k above, and zeros
 
-unfoldable pub kernelOf : ℕ → (ℕ → ℕ → ℕ) → ℕ → ℕ
+unfoldable kernelOf : ℕ → (ℕ → ℕ → ℕ) → ℕ → ℕ
 kernelOf k M c = pick (ltb c k) (M c k) (pick (eqb c k) 1 0)
 
 module _ (k : ℕ) (M : ℕ → ℕ → ℕ) where
@@ -93,7 +93,7 @@ module _ (k : ℕ) (M : ℕ → ℕ → ℕ) where
   unfolding kernelOf
   kernel-high c h = rw (le-ltb c k (omega arith), ne-eqb c k (omega arith))
 
-pub kernel-zero : {n k : ℕ} {M : ℕ → ℕ → ℕ} → Small n M → Reduced n k M → k < n → ((r : ℕ) → k ≤ r → r < n → M r k ≡ 0) → Zero n M (kernelOf k M)
+kernel-zero : {n k : ℕ} {M : ℕ → ℕ → ℕ} → Small n M → Reduced n k M → k < n → ((r : ℕ) → k ≤ r → r < n → M r k ≡ 0) → Zero n M (kernelOf k M)
 unfolding dot
 kernel-zero {n} {k} {M} small m hk none = record { row = λ r h. elim (decLt r k) [ yes l ↦ above r h l | no l ↦ sum-zeros field-ring (n + 1) (λ c b. below r h (omega arith) c) ] }
   where
@@ -141,10 +141,10 @@ kernel {g} {n} {k} {N} s hk none =
 -- ---- one outcome
 
 -- a system with one solution has no kernel
-pub solution-no-kernel : {g : List ℕ} {n : ℕ} {s : ℕ → ℕ} → Solution g n s → Kernel g n → ⊥
+solution-no-kernel : {g : List ℕ} {n : ℕ} {s : ℕ → ℕ} → Solution g n s → Kernel g n → ⊥
 solution-no-kernel a b = b .nonzero (a .trivial (b .y) (b .small) (b .sent) (b .place) (b .inside))
 
-pub unique-solution : {g : List ℕ} {n : ℕ} {s t : ℕ → ℕ} → Solution g n s → Solution g n t → (c : ℕ) → c < n → s c ≡ t c
+unique-solution : {g : List ℕ} {n : ℕ} {s t : ℕ → ℕ} → Solution g n s → Solution g n t → (c : ℕ) → c < n → s c ≡ t c
 unique-solution {s = s} a b c h = b .only s (a .small) (a .solves) c h
 
 -- Singular is answered exactly where some vector that is not zero is sent to zero, and Solved exactly where none is

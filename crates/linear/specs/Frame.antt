@@ -68,7 +68,7 @@ module _ {g h : List ℕ} (n r : ℕ) {f : ℕ → ℕ} (s : Segment g (r * (n +
   unfolding at
   stored-here c l = s .inside c (omega arith)
 
-  pub stored-other : (x c : ℕ) → x ≢ r → c ≤ n → at h n x c ≡ at g n x c
+  stored-other : (x c : ℕ) → x ≢ r → c ≤ n → at h n x c ≡ at g n x c
   unfolding at
   stored-other x c d l =
       elim (decLt x r) [

@@ -45,7 +45,7 @@ pub record Cleared (n k : ℕ) (M N : ℕ → ℕ → ℕ) : Type 0 where
 
 -- ---- entries stay elements
 
-pub exchanged-small : {n k p s : ℕ} {M N : ℕ → ℕ → ℕ} → Exchanged n k p s M N → k < n → Small n M → Small n N
+exchanged-small : {n k p s : ℕ} {M N : ℕ → ℕ → ℕ} → Exchanged n k p s M N → k < n → Small n M → Small n N
 exchanged-small {n} {k} {p} {s} {M} {N} x hk m = record { below = small }
   where
     small : (r c : ℕ) → r < n → c ≤ n → N r c < 16
@@ -59,12 +59,12 @@ exchanged-small {n} {k} {p} {s} {M} {N} x hk m = record { below = small }
               ]
         ]
 
-pub cleared-small : {n k : ℕ} {M N : ℕ → ℕ → ℕ} → Cleared n k M N → Small n M → Small n N
+cleared-small : {n k : ℕ} {M N : ℕ → ℕ → ℕ} → Cleared n k M N → Small n M → Small n N
 cleared-small x m = record { below = λ r c h l. rw (x .gain r c h l) (add-lt _ _ (m .below r c h l) (mul-lt _ _)) }
 
 -- ---- the vectors that are sent to zero stay
 
-pub exchanged-same : {n k p s : ℕ} {M N : ℕ → ℕ → ℕ} → Exchanged n k p s M N → k < n → p < n → s < 16 → s ≢ 0 → SameZero n M N
+exchanged-same : {n k p s : ℕ} {M N : ℕ → ℕ → ℕ} → Exchanged n k p s M N → k < n → p < n → s < 16 → s ≢ 0 → SameZero n M N
 exchanged-same {n} {k} {p} {s} {M} {N} x hk hp hs ns = record { to = λ z. record { row = forth z }; back = λ z. record { row = back z } }
   where
     top : (y : ℕ → ℕ) → dot (n + 1) N y k ≡ mul s (dot (n + 1) M y p)
@@ -90,7 +90,7 @@ exchanged-same {n} {k} {p} {s} {M} {N} x hk hp hs ns = record { to = λ z. recor
           | no f ↦ elim (ℕ-discrete r k) [ yes e ↦ rw e (sym (down y (λ q. f (e ∙ sym q))) ∙ z .row p hp) | no d ↦ sym (other y r h d f) ∙ z .row r h ]
         ]
 
-pub cleared-same : {n k : ℕ} {M N : ℕ → ℕ → ℕ} → Cleared n k M N → k < n → SameZero n M N
+cleared-same : {n k : ℕ} {M N : ℕ → ℕ → ℕ} → Cleared n k M N → k < n → SameZero n M N
 cleared-same {n} {k} {M} {N} x hk = record { to = λ z. record { row = forth z }; back = λ z. record { row = back z } }
   where
     gain : (y : ℕ → ℕ) (r : ℕ) → r < n → dot (n + 1) N y r ≡ add (dot (n + 1) M y r) (mul (factor k M r) (dot (n + 1) M y k))
@@ -110,7 +110,7 @@ cleared-same {n} {k} {M} {N} x hk = record { to = λ z. record { row = forth z }
 
 -- ---- one column more is the identity's
 
-pub exchanged-reduced : {n k p s : ℕ} {M N : ℕ → ℕ → ℕ} → Exchanged n k p s M N → k ≤ p → p < n → Reduced n k M → Reduced n k N
+exchanged-reduced : {n k p s : ℕ} {M N : ℕ → ℕ → ℕ} → Exchanged n k p s M N → k ≤ p → p < n → Reduced n k M → Reduced n k N
 exchanged-reduced {n} {k} {p} {s} {M} {N} x kp hp m = record { diagonal = diagonal; beside = beside }
   where
     diagonal : (c : ℕ) → c < k → N c c ≡ 1
@@ -127,7 +127,7 @@ exchanged-reduced {n} {k} {p} {s} {M} {N} x kp hp m = record { diagonal = diagon
               ]
         ]
 
-pub cleared-reduced : {n k : ℕ} {M N : ℕ → ℕ → ℕ} → Cleared n k M N → k < n → Small n M → Reduced n k M → M k k ≡ 1 → Reduced n (k + 1) N
+cleared-reduced : {n k : ℕ} {M N : ℕ → ℕ → ℕ} → Cleared n k M N → k < n → Small n M → Reduced n k M → M k k ≡ 1 → Reduced n (k + 1) N
 cleared-reduced {n} {k} {M} {N} x hk small m one = record { diagonal = diagonal; beside = beside }
   where
     -- row k itself stays

@@ -1,15 +1,12 @@
 -- A system of n equations over GF(16), as elimination finds it in a lent area, and what elimination promises of its answer and of the area.
 -- Row r of n + 1 bytes is equation r: n coefficients, then the right-hand element. Rests on field's products and algebra's sums.
-use mathlib.Core.Path.{_≡_, ap}
+use mathlib.Core.Path.{_≡_}
 use mathlib.Core.Logic.{_≢_}
 use mathlib.Core.List.{List}
 use Prim.Native.Nat.{ℕ, _+_, _*_, _<_, _≤_}
-use native.Mathlib.Omega.{arith}
-use lib.Arith.{digits-lt}
 use lib.ListN.{length, getD}
 use Rattle.field.specs.Field.{add, mul}
-use Rattle.field.specs.FieldRing.{field-ring}
-use Rattle.algebra.specs.Sum.{sum, sum-cong}
+use Rattle.algebra.specs.Sum.{sum}
 use Rattle.linear.specs.declared.Outcome.{Outcome}
 use Rattle.linear.specs.declared.Outcome.the-variants.{Solved, Singular}
 
@@ -49,13 +46,3 @@ pub record Eliminated (g : List ℕ) (n : ℕ) (r : Outcome) (h : List ℕ) : Ty
   pub singular : r ≡ Singular → Kernel g n
   pub past : (k : ℕ) → n * (n + 1) ≤ k → getD h k 0 ≡ getD g k 0
   pub long : length h ≡ length g
-
--- the area's bytes, one after the other, are below 16
-pub area : {g : List ℕ} {n : ℕ} → n ≤ 160 → n * (n + 1) ≤ length g → ((k : ℕ) → k < n * (n + 1) → getD g k 0 < 16) → Area g n
-unfolding at
-area {n = n} limit fits small = record { limit = limit; fits = fits; small = λ r c h l. small (r * (n + 1) + c) (digits-lt h (omega arith)) }
-
--- a row reads the first n entries of a vector only
-pub apply-cong : (g : List ℕ) (n r : ℕ) {y z : ℕ → ℕ} → ((c : ℕ) → c < n → y c ≡ z c) → apply g n y r ≡ apply g n z r
-unfolding apply
-apply-cong g n r e = sum-cong field-ring n (λ c h. ap (mul (at g n r c)) (e c h))

@@ -8,8 +8,7 @@ use lib.Dec.{ltb}
 use Rattle.ground.specs.Pick.{pick}
 use Rattle.algebra.specs.Sum.{sum, sum-cong}
 use Rattle.field.specs.Field.{add, mul}
-use Rattle.field.specs.Laws.{mul-lt}
-use Rattle.field.specs.FieldRing.{field-ring, sum-lt}
+use Rattle.field.specs.FieldRing.{field-ring}
 use Rattle.matrix.specs.Matrix.{Matrix}
 use Rattle.matrix.specs.Same.{Same}
 
@@ -37,9 +36,3 @@ det-same zero s = refl
 det-same (suc n) {M} {N} s =
     sum-cong field-ring (suc n) (λ r h.
     ap₂ mul (s .at r 0 h (omega arith)) (det-same n (record { at = λ i j hi hj. s .at (skip r i) (j + 1) (skip-lt r i n hi) (omega arith) })))
-
--- a determinant is an element
-pub det-lt : (n : ℕ) (M : Matrix) → det n M < 16
-unfolding det
-det-lt zero M = omega arith
-det-lt (suc n) M = sum-lt (suc n) (λ r h. mul-lt (M r 0) (det n (minor M r)))

@@ -1,4 +1,4 @@
--- Algorithm 2's laws: a shift by 0 changes nothing, an invertible matrix stays, entries are elements, only entries inside l count; and the search, shift by shift.
+-- Algorithm 2's laws: a shift by 0 changes nothing, an invertible matrix stays, only entries inside l count, what it makes is invertible; and the search, shift by shift.
 -- Rests on Invertible, Determinant and Same.
 use mathlib.Core.Path.{_≡_, refl, ap, ap₂, _∙_}
 use mathlib.Core.Bool.{Bool, true, false, not}
@@ -7,7 +7,7 @@ use native.Mathlib.Omega.{arith}
 use borrow.Author.Tests.{ne-eqb, lt-ltb, ltb-true}
 use lib.Dec.{eqb, ltb}
 use Rattle.ground.specs.Pick.{pick}
-use Rattle.field.specs.Laws.{add-zero, add-lt, zero-mul, mul-lt}
+use Rattle.field.specs.Laws.{add-zero, zero-mul}
 use Rattle.matrix.specs.Matrix.{Matrix, addM, scaleM}
 use Rattle.matrix.specs.MatrixRing.{entries}
 use Rattle.matrix.specs.Same.{Same, same-refl, same-add}
@@ -17,21 +17,17 @@ use Rattle.matrix.specs.Invertible.{invertible, shift, firstFrom, shiftO
 
 -- ---- shifts
 
-pub shift-zero : (l : ℕ) (M : Matrix) → shift l M 0 ≡ M
+shift-zero : (l : ℕ) (M : Matrix) → shift l M 0 ≡ M
 unfolding shift addM scaleM
 shift-zero l M = entries (λ r c. rw (zero-mul (S l r c)) (add-zero (M r c)))
 
-pub shift-lt : (l : ℕ) (M : Matrix) (a r c : ℕ) → M r c < 16 → shift l M a r c < 16
-unfolding shift addM scaleM
-shift-lt l M a r c h = add-lt _ _ h (mul-lt a (S l r c))
-
-pub shift-same : {l : ℕ} {M N : Matrix} (a : ℕ) → Same l M N → Same l (shift l M a) (shift l N a)
+shift-same : {l : ℕ} {M N : Matrix} (a : ℕ) → Same l M N → Same l (shift l M a) (shift l N a)
 unfolding shift
 shift-same a s = same-add s same-refl
 
 -- ---- invertible matrices
 
-pub invertible-same : {l : ℕ} {M N : Matrix} → Same l M N → invertible l M ≡ invertible l N
+invertible-same : {l : ℕ} {M N : Matrix} → Same l M N → invertible l M ≡ invertible l N
 unfolding invertible
 invertible-same {l} s = ap (λ d. not (eqb d 0)) (det-same l s)
 
@@ -79,11 +75,7 @@ pub algorithm2-stays : (l : ℕ) (M : Matrix) → invertible l M ≡ true → al
 unfolding algorithm2
 algorithm2-stays l M t = rw (shift-stays l M t) (shift-zero l M)
 
-pub algorithm2-lt : (l : ℕ) (M : Matrix) (r c : ℕ) → M r c < 16 → algorithm2 l M r c < 16
-unfolding algorithm2
-algorithm2-lt l M r c h = shift-lt l M (shiftOf l M) r c h
-
-pub shiftOf-same : {l : ℕ} {M N : Matrix} → Same l M N → shiftOf l M ≡ shiftOf l N
+shiftOf-same : {l : ℕ} {M N : Matrix} → Same l M N → shiftOf l M ≡ shiftOf l N
 unfolding shiftOf
 shiftOf-same s = ap₂ (λ b x. pick b 0 x) (invertible-same s) (first-same 15 1 s)
 

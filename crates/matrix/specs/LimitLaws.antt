@@ -1,15 +1,14 @@
 -- What the tests of Limits say: a row of tests holds where each does, and fails where one does.
 -- Rests on Limits and Block.
-use mathlib.Core.Path.{_≡_, refl, ap, _∙_}
+use mathlib.Core.Path.{_≡_, refl}
 use mathlib.Core.Bool.{Bool, true, false}
-use Prim.Native.Nat.{ℕ, zero, suc, _+_, _*_, _/_, _%_, _<_, _≤_}
+use Prim.Native.Nat.{ℕ, _+_, _*_, _/_, _%_, _<_, _≤_}
 use native.Mathlib.Nat.{not-suc-le-zero}
-use native.Mathlib.Decide.{decLt}
 use native.Mathlib.Omega.{arith}
 use borrow.Author.Tests.{lt-ltb, le-ltb, ltb-true, leb-true}
 use lib.Dec.{leb, ltb}
-use Rattle.ground.specs.Pick.{both, both-left, both-right, both-true}
-use Rattle.ground.specs.Tests.{every, every-at, every-true, every-fails}
+use Rattle.ground.specs.Pick.{both-left, both-right}
+use Rattle.ground.specs.Tests.{every-at, every-true, every-fails}
 use Rattle.matrix.specs.Matrix.{Matrix}
 use Rattle.matrix.specs.Block.{inside, inside-row, inside-column, cell, cell-at}
 use Rattle.matrix.specs.Limits.{leastSize, mostSize, sizeAllowed, entriesAllowed, coefficientsAllowed}
@@ -44,14 +43,9 @@ pub entries-pass : (l : ℕ) (M : Matrix) → ((r c : ℕ) → r < l → c < l �
 unfolding entriesAllowed
 entries-pass l M h = every-true l _ (λ r hr. every-true l _ (λ c hc. lt-ltb (M r c) 16 (h r c hr hc)))
 
-pub entries-fail : (l : ℕ) (M : Matrix) (r c : ℕ) → r < l → c < l → 15 < M r c → entriesAllowed l M ≡ false
+entries-fail : (l : ℕ) (M : Matrix) (r c : ℕ) → r < l → c < l → 15 < M r c → entriesAllowed l M ≡ false
 unfolding entriesAllowed
 entries-fail l M r c hr hc h = every-fails l _ r hr (every-fails l _ c hc (le-ltb (M r c) 16 h))
-
-pub entries-lt : (l : ℕ) (M : Matrix) → entriesAllowed l M ≡ true → (r c : ℕ) → r < l → c < l → M r c < 16
-unfolding entriesAllowed
-entries-lt l M t r c hr hc =
-    ltb-true (M r c) 16 (every-at l (λ c. ltb (M r c) 16) (every-at l (λ r. every l (λ c. ltb (M r c) 16)) t r hr) c hc)
 
 -- the same, asked of the block's bytes
 pub cells-pass : (l : ℕ) (M : Matrix) → l ≤ 5 → ((e : ℕ) → e < 25 → cell l M e < 16) → entriesAllowed l M ≡ true

@@ -56,7 +56,11 @@ times-one l p M P =
 
 one-symmetric : (l r c : ℕ) → oneM l c r ≡ oneM l r c
 unfolding oneM
-one-symmetric l r c = elim (ℕ-discrete (c % l) (r % l)) [ yes e ↦ rw (eq-eqb (c % l) (r % l) e, eq-eqb (r % l) (c % l) (sym e)) | no n ↦ rw (ne-eqb (c % l) (r % l) n, ne-eqb (r % l) (c % l) (λ e. n (sym e))) ]
+one-symmetric l r c =
+    elim (ℕ-discrete (c % l) (r % l)) [
+      | yes e ↦ rw (eq-eqb (c % l) (r % l) e, eq-eqb (r % l) (c % l) (sym e))
+      | no n ↦ rw (ne-eqb (c % l) (r % l) n, ne-eqb (r % l) (c % l) (λ e. n (sym e)))
+    ]
 
 S-symmetric : (l r c : ℕ) → S l c r ≡ S l r c
 unfolding S

@@ -1,20 +1,17 @@
--- The powers of S and Algorithm 1's sum, block by block, as the code forms them; and what Algorithm 1 reads and gives.
+-- The powers of S and Algorithm 1's sum, block by block, as the code forms them; and what Algorithm 1 reads.
 -- Rests on Steps, Same and Block.
 use mathlib.Core.Path.{_≡_, refl, sym, ap, _∙_}
 use mathlib.Core.Bool.{Bool, true, false}
 use mathlib.Core.List.{List}
-use Prim.Native.Nat.{ℕ, _+_, _-_, _<_, _≤_}
+use Prim.Native.Nat.{ℕ, _+_, _<_, _≤_}
 use native.Mathlib.Omega.{arith}
-use native.Mathlib.Decide.{ℕ-discrete}
-use borrow.Author.Tests.{eq-eqb, ne-eqb}
-use lib.Dec.{eqb}
 use Rattle.ground.specs.Pick.{pick}
 use Rattle.ground.specs.Fill.{tab, length-tab, getD-tab}
 use Rattle.algebra.specs.Sum.{sum-cong}
 use Rattle.algebra.specs.Powers.{polynomial}
 use Rattle.matrix.specs.Matrix.{zeroM, addM, mulM, scaleM}
 use Rattle.matrix.specs.MatrixRing.{matrices}
-use Rattle.matrix.specs.Same.{same-trans, same-add, same-mul, same-scale, same-equal, scaleM-lt, sumM-lt}
+use Rattle.matrix.specs.Same.{same-trans, same-add, same-mul, same-scale, same-equal}
 use Rattle.matrix.specs.RingElements.{S, powerS, coefficient, algorithm1}
 use Rattle.matrix.specs.Block.{view, block, block-ext, block-same, inside, cell-kept, holds}
 use Rattle.matrix.specs.Steps.{powerS-more, terms, terms-none, terms-more}
@@ -41,35 +38,23 @@ kept-zero false = refl
 pub terms-start : (l : ℕ) (c : ℕ → ℕ) {b : List ℕ} → b ≡ noBlock → b ≡ block l (terms l c 0)
 unfolding noBlock
 terms-start l c e =
-    e ∙ block-ext (tab 25 (λ e. 0)) l zeroM (length-tab 25 _) (λ k h. cell-kept l zeroM k (getD-tab 25 (λ e. 0) k h ∙ kept-zero (inside l k)) (λ hr hc. refl)) ∙ ap (block l) (sym (terms-none l c))
+    e
+    ∙ block-ext (tab 25 (λ e. 0)) l zeroM (length-tab 25 _)
+    (λ k h. cell-kept l zeroM k (getD-tab 25 (λ e. 0) k h ∙ kept-zero (inside l k)) (λ hr hc. refl))
+    ∙ ap (block l) (sym (terms-none l c))
 
 -- all of them are Algorithm 1's element
 pub terms-all : (l : ℕ) (a : ℕ → ℕ) → terms l (coefficient l a) l ≡ algorithm1 l a
 unfolding terms
 terms-all l a = refl
 
--- ---- what Algorithm 1 reads and gives
-
-pub coefficient-lt : (l : ℕ) (a : ℕ → ℕ) (k : ℕ) → a k < 16 → coefficient l a k < 16
-unfolding coefficient
-coefficient-lt l a k h = by (eqb k (l - 1)) (eqb (a k) 0) (ℕ-discrete (a 0) 0)
-  where
-    by : (p q : Bool) → Dec (a 0 ≡ 0) → pick p (pick q (pick (eqb (a 0) 0) 15 (16 - a 0)) (a k)) (a k) < 16
-    by false q d = h
-    by true false d = h
-    by true true (yes e) = rw (eq-eqb (a 0) 0 e) (omega arith)
-    by true true (no n) = rw (ne-eqb (a 0) 0 n) (omega arith)
+-- ---- what Algorithm 1 reads
 
 -- only the first l coefficients are read
-pub coefficient-cong : (l : ℕ) {a b : ℕ → ℕ} → ((k : ℕ) → k < l → a k ≡ b k) → (k : ℕ) → k < l → coefficient l a k ≡ coefficient l b k
+coefficient-cong : (l : ℕ) {a b : ℕ → ℕ} → ((k : ℕ) → k < l → a k ≡ b k) → (k : ℕ) → k < l → coefficient l a k ≡ coefficient l b k
 unfolding coefficient
 coefficient-cong l {a} {b} e k h = rw (e k h, e 0 (omega arith))
 
 pub algorithm1-cong : (l : ℕ) {a b : ℕ → ℕ} → ((k : ℕ) → k < l → a k ≡ b k) → algorithm1 l a ≡ algorithm1 l b
 unfolding polynomial
 algorithm1-cong l e = sum-cong (matrices l) l (λ k h. ap (λ x. scaleM x (powerS l k)) (coefficient-cong l e k h))
-
--- the entries of an element of F16[S] are elements
-pub algorithm1-lt : (l : ℕ) (a : ℕ → ℕ) (r c : ℕ) → algorithm1 l a r c < 16
-unfolding polynomial
-algorithm1-lt l a r c = sumM-lt l _ r c (λ k h. scaleM-lt (coefficient l a k) (powerS l k) r c)

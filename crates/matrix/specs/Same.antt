@@ -50,14 +50,10 @@ pub same-sum : {l : ℕ} (n : ℕ) {f g : ℕ → Matrix} → ((k : ℕ) → k <
 same-sum n {f} {g} s =
     record { at = λ r c hr hc. sum-entry n f r c ∙ sum-cong field-ring n (λ k h. s k h .at r c hr hc) ∙ sym (sum-entry n g r c) }
 
--- entries of products, and of multiples, are elements
+-- entries of products, and of sums of elements, are elements
 pub mulM-lt : (l : ℕ) (M N : Matrix) (r c : ℕ) → mulM l M N r c < 16
 unfolding mulM
 mulM-lt l M N r c = sum-lt l (λ k h. mul-lt (M r k) (N k c))
-
-pub scaleM-lt : (a : ℕ) (M : Matrix) (r c : ℕ) → scaleM a M r c < 16
-unfolding scaleM
-scaleM-lt a M r c = mul-lt a (M r c)
 
 pub sumM-lt : (n : ℕ) (f : ℕ → Matrix) (r c : ℕ) → ((k : ℕ) → k < n → f k r c < 16) → sum zeroM addM n f r c < 16
 sumM-lt n f r c h = rw (sum-entry n f r c) (sum-lt n h)

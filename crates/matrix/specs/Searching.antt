@@ -37,7 +37,7 @@ tried-det {l} h s = det-same l (holds h (s .shifted))
 left : {a : ℕ} → a ≤ 15 → 16 - a ≡ suc (15 - a)
 left h = omega arith
 
-pub searching-next : {l : ℕ} {M : Matrix} {a : ℕ} {tried next : List ℕ} → l ≤ 5 → Searching l M a tried → det l (view tried) ≡ 0 → (a ≡ 15 → ⊥)
+searching-next : {l : ℕ} {M : Matrix} {a : ℕ} {tried next : List ℕ} → l ≤ 5 → Searching l M a tried → det l (view tried) ≡ 0 → (a ≡ 15 → ⊥)
     → next ≡ block l (shift l M (a + 1)) → Searching l M (a + 1) next
 searching-next {l} {M} {a} h s z n is =
     let fewer : 15 - a ≡ 16 - (a + 1) = omega arith in

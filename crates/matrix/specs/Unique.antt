@@ -18,7 +18,8 @@ use Rattle.matrix.specs.declared.Value.{Value}
 
 -- ---- the functions for everybody
 
-unique-makes : {n : ℕ} {result : List ℕ} {r r′ : Made} → Makes n result r → Makes n result r′ → (r .answer ≡ r′ .answer) × (r .block ≡ r′ .block)
+-- the answer, and the block beside it
+pub unique-makes : {n : ℕ} {result : List ℕ} {r r′ : Made} → Makes n result r → Makes n result r′ → (r .answer ≡ r′ .answer) × (r .block ≡ r′ .block)
 unique-makes {n} a b = (
   a .answer ∙ sym (b .answer),
   elim (ℕ-discrete n 0) [ yes e ↦ a .done e ∙ sym (b .done e) | no e ↦ a .refused e ∙ sym (b .refused e) ],

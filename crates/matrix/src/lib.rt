@@ -1,4 +1,5 @@
-// l by l matrices over GF(16): a block of bytes holds a matrix, and its size l goes beside it. Elements of F16[S] by Algorithm 1, determinants, and matrices made invertible by Algorithm 2.
+// l by l matrices over GF(16): a block of bytes holds a matrix, and its size l goes beside it.
+// Elements of F16[S] by Algorithm 1, determinants, and matrices made invertible by Algorithm 2.
 // The three functions of this file are for everybody: they ask nothing of the caller and refuse what they cannot take.
 // What the modules offer is for our own crates: some of it has conditions, which the callers' proofs show.
 mod arithmetic;

@@ -9,15 +9,15 @@ use native.Mathlib.Decide.{decLt, ℕ-discrete}
 use native.Mathlib.Omega.{arith}
 use lib.Dec.{leb}
 use lib.ListN.{length, getD, take, drop, List·getD-eq-default}
-use lib.Seq.{ext-getD, drop-cons, getD-take, getD-drop}
+use lib.Seq.{ext-getD, drop-cons, getD-take}
 use borrow.Author.Tests.{le-leb, lt-leb, leb-true}
 use Rattle.ground.specs.Pick.{both, both-left, both-right, both-true}
-use Rattle.ground.specs.Fill.{length-tab, getD-tab, tab-ext}
+use Rattle.ground.specs.Fill.{tab, length-tab, getD-tab, tab-ext}
 use Rattle.packing.specs.Packing.{half, element, packedBytes, byteOf, packed, unpacked, inField, Bytes}
 
 -- ---- an element, by the parity of its number
 
-pub by-parity : {A : Type 0} (e : ℕ) → (e % 2 ≡ 0 → A) → (e % 2 ≡ 1 → A) → A
+by-parity : {A : Type 0} (e : ℕ) → (e % 2 ≡ 0 → A) → (e % 2 ≡ 1 → A) → A
 by-parity e even odd = elim (ℕ-discrete (e % 2) 0) [ yes p ↦ even p | no p ↦ odd (omega arith) ]
 
 pub half-even : (b e : ℕ) → e % 2 ≡ 0 → half b e ≡ b % 16
@@ -28,7 +28,7 @@ pub half-odd : (b e : ℕ) → e % 2 ≡ 1 → half b e ≡ b / 16 % 16
 unfolding half
 half-odd b e p = rw p
 
-pub half-lt : (b e : ℕ) → half b e < 16
+half-lt : (b e : ℕ) → half b e < 16
 half-lt b e = by-parity e (λ p. omega (arith, half-even b e p)) (λ p. omega (arith, half-odd b e p))
 
 pub element-lt : (s : List ℕ) (e : ℕ) → element s e < 16
@@ -44,34 +44,16 @@ unfolding element
 element-odd s e p = half-odd _ e p
 
 -- elements 2 * j and 2 * j + 1 stand in byte j
-pub element-low : (s : List ℕ) (j : ℕ) → element s (2 * j) ≡ getD s j 0 % 16
+element-low : (s : List ℕ) (j : ℕ) → element s (2 * j) ≡ getD s j 0 % 16
 element-low s j = element-even s (2 * j) (omega arith) ∙ ap (λ i. getD s i 0 % 16) (omega arith)
 
-pub element-high : (s : List ℕ) (j : ℕ) → element s (2 * j + 1) ≡ getD s j 0 / 16 % 16
+element-high : (s : List ℕ) (j : ℕ) → element s (2 * j + 1) ≡ getD s j 0 / 16 % 16
 element-high s j = element-odd s (2 * j + 1) (omega arith) ∙ ap (λ i. getD s i 0 / 16 % 16) (omega arith)
 
--- past the last byte every element reads as zero
-pub element-past : (s : List ℕ) (e : ℕ) → 2 * length s ≤ e → element s e ≡ 0
-unfolding element
-element-past s e h =
-    ap (λ b. half b e) (List·getD-eq-default s 0 (omega arith)) ∙ by-parity e (λ p. half-even 0 e p) (λ p. half-odd 0 e p)
-
--- the elements of a stream's first n bytes, and of those after them
+-- the elements of a stream's first n bytes
 pub element-take : (n : ℕ) (s : List ℕ) (e : ℕ) → e / 2 < n → element (take n s) e ≡ element s e
 unfolding element
 element-take n s e l = ap (λ b. half b e) (getD-take n s (e / 2) 0 l)
-
-pub element-drop : (n : ℕ) (s : List ℕ) (e : ℕ) → element (drop n s) e ≡ element s (2 * n + e)
-element-drop n s e = by-parity e even odd
-  where
-    byte : getD (drop n s) (e / 2) 0 ≡ getD s ((2 * n + e) / 2) 0
-    byte = let at : n + e / 2 ≡ (2 * n + e) / 2 = omega arith in getD-drop n s (e / 2) 0 ∙ ap (λ i. getD s i 0) at
-
-    even : e % 2 ≡ 0 → element (drop n s) e ≡ element s (2 * n + e)
-    even p = element-even (drop n s) e p ∙ ap (λ b. b % 16) byte ∙ sym (element-even s (2 * n + e) (omega arith))
-
-    odd : e % 2 ≡ 1 → element (drop n s) e ≡ element s (2 * n + e)
-    odd p = element-odd (drop n s) e p ∙ ap (λ b. b / 16 % 16) byte ∙ sym (element-odd s (2 * n + e) (omega arith))
 
 -- ---- a stream's elements fix its bytes
 
@@ -92,10 +74,15 @@ in-field-lt [] t k = omega arith
 in-field-lt (x ∷ es) t zero = omega (arith, leb-true x 15 (both-left _ (inField es) t))
 in-field-lt (x ∷ es) t (suc k) = in-field-lt es (both-right (leb x 15) (inField es) t) k
 
-pub lt-in-field : (es : List ℕ) → ((k : ℕ) → k < length es → getD es k 0 < 16) → inField es ≡ true
+lt-in-field : (es : List ℕ) → ((k : ℕ) → k < length es → getD es k 0 < 16) → inField es ≡ true
 unfolding inField
 lt-in-field [] h = refl
 lt-in-field (x ∷ es) h = both-true (le-leb x 15 (omega (arith, h 0 (omega arith)))) (lt-in-field es (λ k l. h (suc k) (omega arith)))
+
+-- a list made of elements by a rule
+pub in-field-tab : (n : ℕ) (f : ℕ → ℕ) → ((k : ℕ) → k < n → f k < 16) → inField (tab n f) ≡ true
+in-field-tab n f small =
+    lt-in-field (tab n f) (λ k h. let l : k < n = omega (arith, length-tab n f) in rw (getD-tab n f k l) (small k l))
 
 -- a test from place k on goes by what stands there, and on from the next place
 in-field-step : (es : List ℕ) (k : ℕ) → k < length es → inField (drop k es) ≡ both (leb (getD es k 0) 15) (inField (drop (k + 1) es))
@@ -108,10 +95,9 @@ in-field-next es k l h = in-field-step es k l ∙ ap (λ t. both t (inField (dro
 pub in-field-stop : (es : List ℕ) (k : ℕ) → k < length es → 15 < getD es k 0 → inField (drop k es) ≡ false
 in-field-stop es k l h = in-field-step es k l ∙ ap (λ t. both t (inField (drop (k + 1) es))) (lt-leb _ _ h)
 
-pub unpacked-in-field : (k : ℕ) (s : List ℕ) → inField (unpacked k s) ≡ true
+unpacked-in-field : (k : ℕ) (s : List ℕ) → inField (unpacked k s) ≡ true
 unfolding unpacked
-unpacked-in-field k s =
-    lt-in-field (unpacked k s) (λ e l. omega (arith, getD-tab k (element s) e (omega (arith, length-tab k (element s))), element-lt s e))
+unpacked-in-field k s = in-field-tab k (element s) (λ e l. element-lt s e)
 
 -- ---- what packing and unpacking leave
 
@@ -119,11 +105,11 @@ pub length-packed : (es : List ℕ) → length (packed es) ≡ packedBytes (leng
 unfolding packed
 length-packed es = length-tab _ _
 
-pub length-unpacked : (k : ℕ) (s : List ℕ) → length (unpacked k s) ≡ k
+length-unpacked : (k : ℕ) (s : List ℕ) → length (unpacked k s) ≡ k
 unfolding unpacked
 length-unpacked k s = length-tab _ _
 
-pub getD-unpacked : (k : ℕ) (s : List ℕ) (e : ℕ) → e < k → getD (unpacked k s) e 0 ≡ element s e
+getD-unpacked : (k : ℕ) (s : List ℕ) (e : ℕ) → e < k → getD (unpacked k s) e 0 ≡ element s e
 unfolding unpacked
 getD-unpacked k s e l = getD-tab k (element s) e l
 
@@ -142,7 +128,7 @@ getD-packed es j =
           )
     ]
 
-pub bytes-packed : (es : List ℕ) → inField es ≡ true → Bytes (packed es)
+bytes-packed : (es : List ℕ) → inField es ≡ true → Bytes (packed es)
 unfolding byteOf
 bytes-packed es t = record { below = λ j. omega (arith, getD-packed es j, in-field-lt es t (2 * j), in-field-lt es t (2 * j + 1)) }
 

@@ -1,7 +1,6 @@
 pub mod Packing
 pub mod Laws
 pub mod Written
-pub mod Filling
 pub mod Refusals
 pub mod RoundTrip
 pub mod Unique

@@ -4,27 +4,14 @@ use mathlib.Core.Path.{_≡_, sym, ap, ap₂, _∙_}
 use mathlib.Core.Bool.{true}
 use mathlib.Core.List.{List}
 use Prim.Native.Nat.{ℕ}
-use native.Mathlib.Decide.{ℕ-discrete}
-use native.Mathlib.Omega.{arith}
 use lib.ListN.{length}
-use borrow.Author.Tests.{ne-eqb}
 use Rattle.ground.specs.Answers.{lowest, answerOf}
+use Rattle.ground.specs.AnswerLaws.{answer-done}
 use Rattle.ground.specs.declared.Answer.{Answer}
-use Rattle.ground.specs.declared.Answer.the-variants.{Done, Refused}
+use Rattle.ground.specs.declared.Answer.the-variants.{Done}
 use Rattle.packing.specs.Packing.{packedBytes, packed, unpacked, inField, packRules, unpackRules, Packs, Unpacks}
 use Rattle.packing.specs.Laws.{length-packed, unpack-pack}
 use Rattle.packing.specs.Refusals.{pack-allowed, unpack-fits}
-
--- done is answered for no number but 0
-pub done-is-zero : (n : ℕ) → answerOf n ≡ Done → n ≡ 0
-done-is-zero n e =
-    elim (ℕ-discrete n 0) [
-      | yes p ↦ p
-      | no p ↦
-          let refused : answerOf n ≡ Refused n = rw (ne-eqb n 0 p) in
-          let z : _≡_ {A = ℕ} 0 1 = cc in
-          omega arith
-    ]
 
 pub pack-then-unpack : (elements : List ℕ) {bytes stream room out : List ℕ} {r r′ : Answer} → Packs elements bytes r stream → r ≡ Done
     → Unpacks stream room r′ out → length room ≡ length elements → (r′ ≡ Done) × (out ≡ elements)
@@ -32,7 +19,7 @@ pack-then-unpack elements {bytes} {stream} {room} {out} {r} {r′} p d u same =
     (u .answer ∙ ap answerOf no-refusal, u .done no-refusal ∙ ap₂ unpacked same holds ∙ unpack-pack elements (allowed .1))
   where
     done : lowest (packRules elements bytes) ≡ 0
-    done = done-is-zero _ (sym (p .answer) ∙ d)
+    done = answer-done _ (p .answer) d
 
     allowed : (length bytes ≡ packedBytes (length elements)) × (inField elements ≡ true)
     allowed = pack-allowed elements bytes done

@@ -1,16 +1,15 @@
 -- Writing into a packed stream: one element, or a run of them by a rule, and every other element stays. What loops that write elements have done so far.
 -- Rests on Laws.
-use mathlib.Core.Path.{_≡_, refl, sym, ap, _∙_}
-use mathlib.Core.Bool.{true}
+use mathlib.Core.Path.{_≡_, refl, sym, ap, subst, _∙_}
 use mathlib.Core.List.{List}
 use Prim.Native.Nat.{ℕ, _+_, _-_, _*_, _/_, _%_, _<_, _≤_}
-use native.Mathlib.Nat.{zero-add, not-suc-le-zero}
+use native.Mathlib.Nat.{not-suc-le-zero}
 use native.Mathlib.Decide.{decLt, ℕ-discrete}
 use native.Mathlib.Omega.{arith}
-use lib.ListN.{length, getD, set, length-set, List·getD-eq-default}
+use lib.ListN.{length, getD, set, length-set}
 use lib.Seq.{getD-set-same, getD-set-other}
-use Rattle.packing.specs.Packing.{half, element, packedBytes, packed, inField, Bytes}
-use Rattle.packing.specs.Laws.{half-even, half-odd, element-ext, packed-ext}
+use Rattle.packing.specs.Packing.{half, element, Bytes}
+use Rattle.packing.specs.Laws.{half-even, half-odd, element-ext}
 
 -- t is s with x written as element e
 pub record Put (s : List ℕ) (e x : ℕ) (t : List ℕ) : Type 0 where
@@ -28,12 +27,12 @@ pub record Written (s : List ℕ) (base n : ℕ) (f : ℕ → ℕ) (t : List ℕ
 -- ---- one element
 
 -- a byte that is stored shows in its own two elements
-pub element-set-same : (s : List ℕ) (j b e : ℕ) → e / 2 ≡ j → j < length s → element (set s j b) e ≡ half b e
+element-set-same : (s : List ℕ) (j b e : ℕ) → e / 2 ≡ j → j < length s → element (set s j b) e ≡ half b e
 unfolding element
 element-set-same s j b e p l = ap (λ i. half (getD (set s j b) i 0) e) p ∙ ap (λ x. half x e) (getD-set-same s j b 0 l)
 
 -- and in no other
-pub element-set-other : (s : List ℕ) (j b e : ℕ) → (e / 2 ≡ j → ⊥) → element (set s j b) e ≡ element s e
+element-set-other : (s : List ℕ) (j b e : ℕ) → (e / 2 ≡ j → ⊥) → element (set s j b) e ≡ element s e
 unfolding element
 element-set-other s j b e p = ap (λ x. half x e) (getD-set-other s j (e / 2) b 0 p)
 
@@ -96,6 +95,10 @@ written-next {s} {t} {u} {base} {n} {x} {f} w p e =
       high = λ k h. p .others k (omega arith) ∙ w .high k (omega arith);
     }
 
+-- the run is whole
+pub written-end : {s t : List ℕ} {base i n : ℕ} {f : ℕ → ℕ} → Written s base i f t → i ≤ n → n ≤ i → Written s base n f t
+written-end {s} {t} {base} {f = f} w h l = subst (λ k. Written s base k f t) (omega arith) w
+
 -- the same run by another rule that agrees on it
 pub written-cong : {s t : List ℕ} {base n : ℕ} {f g : ℕ → ℕ} → ((k : ℕ) → k < n → f k ≡ g k) → Written s base n f t → Written s base n g t
 written-cong e w = record { long = w .long; inside = λ k l. w .inside k l ∙ e k l; low = w .low; high = w .high }
@@ -133,20 +136,3 @@ written-unique {s} {t} {u} {base} {n} {f} bt bu a b = element-ext t u bt bu (a .
                 | no m ↦ a .high k (omega arith) ∙ sym (b .high k (omega arith))
               ]
         ]
-
--- ---- elements written from the first on are the packed elements
-
--- with a zero in the spare half
-pub written-packed : {s t : List ℕ} (es : List ℕ) → inField es ≡ true → Bytes t → length t ≡ packedBytes (length es)
-    → Written s 0 (length es) (λ k. getD es k 0) t → (length es % 2 ≡ 1 → element t (length es) ≡ 0) → t ≡ packed es
-written-packed {s} {t} es i b long w spare = packed-ext t es i b long (λ k l. ap (element t) (sym (zero-add k)) ∙ w .inside k l) spare
-
--- or with the spare half written too, as one zero more
-pub written-whole-packed : {s t : List ℕ} (es : List ℕ) → inField es ≡ true → Bytes t → length t ≡ packedBytes (length es)
-    → Written s 0 (2 * packedBytes (length es)) (λ k. getD es k 0) t → t ≡ packed es
-unfolding packedBytes
-written-whole-packed {s} {t} es i b long w =
-    packed-ext t es i b long (λ k l. at k (omega arith)) (λ odd. at (length es) (omega arith) ∙ List·getD-eq-default es 0 (omega arith))
-  where
-    at : (k : ℕ) → k < 2 * packedBytes (length es) → element t k ≡ getD es k 0
-    at k l = ap (element t) (sym (zero-add k)) ∙ w .inside k l

@@ -1,8 +1,7 @@
--- No refusal is exactly an allowed set and every length the exact one, for each operation; and which numbers an operation can answer.
--- Rests on Rules and Lowest. The lengths lent are p public, a ABQ, t private, x vinegar, y target, h salt, w work area, k key, g signature, r output.
+-- Where nothing is refused the set is allowed and every length is the exact one, for each operation; for the verdict also the other way round.
+-- Rests on Rules and on ground's Lowest. The lengths lent are p public, a ABQ, t private, x vinegar, y target, h salt, w work area, k key, g signature, r output.
 use mathlib.Core.Path.{_≡_}
 use mathlib.Core.Bool.{true}
-use mathlib.Core.List.{List, [], _∷_, List·Memᴰ}
 use Prim.Native.Nat.{ℕ}
 use borrow.Author.Tests.{eqb-true, eq-eqb}
 use Rattle.ground.specs.Answers.{lowest, Met, met-none, met-more, lowest-met}
@@ -19,7 +18,7 @@ use Rattle.sets.specs.Sets.{
   workBytes,
   saltBytes,
 }
-use Rattle.ground.specs.Lowest.{met-of-lowest, lowest-listed}
+use Rattle.ground.specs.Lowest.{met-of-lowest}
 use Rattle.refusals.specs.Rules.{keygenRules, signRules, verdictRules, saltRules}
 
 -- key generation
@@ -31,7 +30,7 @@ pub record KeygenFits (s : Set) (p t r : ℕ) : Type 0 where
   pub output : r ≡ keyBytes s
 
 module _ (s : Set) (p t r : ℕ) where
-  pub keygen-met : lowest (keygenRules s p t r) ≡ 0 → Met (keygenRules s p t r)
+  keygen-met : lowest (keygenRules s p t r) ≡ 0 → Met (keygenRules s p t r)
   unfolding keygenRules
   keygen-met = met-of-lowest (keygenRules s p t r) tt
 
@@ -42,19 +41,6 @@ module _ (s : Set) (p t r : ℕ) where
       by : Met (keygenRules s p t r) → KeygenFits s p t r
       by (met-more s-is (met-more p-is (met-more t-is (met-more r-is met-none)))) =
           record { allowed = s-is; public = eqb-true _ _ p-is; private = eqb-true _ _ t-is; output = eqb-true _ _ r-is }
-
-  pub keygen-exact : KeygenFits s p t r → lowest (keygenRules s p t r) ≡ 0
-  unfolding keygenRules
-  keygen-exact f =
-      lowest-met
-      (met-more (f .allowed)
-      (met-more (eq-eqb _ _ (f .public))
-      (met-more (eq-eqb _ _ (f .private))
-      (met-more (eq-eqb _ _ (f .output)) met-none))))
-
-  pub keygen-numbers : List·Memᴰ (lowest (keygenRules s p t r)) (0 ∷ 10 ∷ 11 ∷ 13 ∷ 20 ∷ [])
-  unfolding keygenRules
-  keygen-numbers = lowest-listed (keygenRules s p t r)
 
 -- signing
 
@@ -91,24 +77,6 @@ module _ (s : Set) (p a t x y h w r : ℕ) where
             work = eqb-true _ _ w-is;
             output = eqb-true _ _ r-is;
           }
-
-  pub sign-exact : SignFits s p a t x y h w r → lowest (signRules s p a t x y h w r) ≡ 0
-  unfolding signRules
-  sign-exact f =
-      lowest-met
-      (met-more (f .allowed)
-      (met-more (eq-eqb _ _ (f .public))
-      (met-more (eq-eqb _ _ (f .abq))
-      (met-more (eq-eqb _ _ (f .private))
-      (met-more (eq-eqb _ _ (f .vinegar))
-      (met-more (eq-eqb _ _ (f .target))
-      (met-more (eq-eqb _ _ (f .salt))
-      (met-more (eq-eqb _ _ (f .work))
-      (met-more (eq-eqb _ _ (f .output)) met-none)))))))))
-
-  pub sign-numbers : List·Memᴰ (lowest (signRules s p a t x y h w r)) (0 ∷ 10 ∷ 11 ∷ 12 ∷ 13 ∷ 14 ∷ 15 ∷ 17 ∷ 19 ∷ 20 ∷ [])
-  unfolding signRules
-  sign-numbers = lowest-listed (signRules s p a t x y h w r)
 
 -- the verdict
 
@@ -151,10 +119,6 @@ module _ (s : Set) (p a y k g : ℕ) where
       (met-more (eq-eqb _ _ (f .key))
       (met-more (eq-eqb _ _ (f .signature)) met-none))))))
 
-  pub verdict-numbers : List·Memᴰ (lowest (verdictRules s p a y k g)) (0 ∷ 10 ∷ 11 ∷ 12 ∷ 15 ∷ 16 ∷ 18 ∷ [])
-  unfolding verdictRules
-  verdict-numbers = lowest-listed (verdictRules s p a y k g)
-
 -- the salt
 
 pub record SaltFits (s : Set) (g : ℕ) : Type 0 where
@@ -162,7 +126,7 @@ pub record SaltFits (s : Set) (g : ℕ) : Type 0 where
   pub signature : g ≡ signatureBytes s
 
 module _ (s : Set) (g : ℕ) where
-  pub salt-met : lowest (saltRules s g) ≡ 0 → Met (saltRules s g)
+  salt-met : lowest (saltRules s g) ≡ 0 → Met (saltRules s g)
   unfolding saltRules
   salt-met = met-of-lowest (saltRules s g) tt
 
@@ -172,11 +136,3 @@ module _ (s : Set) (g : ℕ) where
     where
       by : Met (saltRules s g) → SaltFits s g
       by (met-more s-is (met-more g-is met-none)) = record { allowed = s-is; signature = eqb-true _ _ g-is }
-
-  pub salt-exact : SaltFits s g → lowest (saltRules s g) ≡ 0
-  unfolding saltRules
-  salt-exact f = lowest-met (met-more (f .allowed) (met-more (eq-eqb _ _ (f .signature)) met-none))
-
-  pub salt-numbers : List·Memᴰ (lowest (saltRules s g)) (0 ∷ 10 ∷ 18 ∷ [])
-  unfolding saltRules
-  salt-numbers = lowest-listed (saltRules s g)

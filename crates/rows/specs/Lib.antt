@@ -5,5 +5,4 @@ pub mod PlusRows
 pub mod RowsJoin
 pub mod Tile
 pub mod Zero
-pub mod WrittenEnd
 pub mod Unique

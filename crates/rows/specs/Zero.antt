@@ -1,12 +1,11 @@
 -- A row of zeros: what a cleared buffer holds.
 -- Rests on the kit's `replicate`.
-use mathlib.Core.Path.{_≡_, sym, ap, _∙_}
+use mathlib.Core.Path.{_≡_, ap}
 use mathlib.Core.List.{List, _++_, append-nil}
-use Prim.Native.Nat.{ℕ, _+_, _<_, _≤_}
+use Prim.Native.Nat.{ℕ, _≤_}
 use native.Mathlib.Decide.{decLt}
 use native.Mathlib.Omega.{arith}
 use lib.ListN.{length, getD, drop, replicate, length-replicate, getD-replicate, List·getD-eq-default, drop-of-length-le}
-use lib.Seq.{ext-getD}
 
 abbrev pub zeros : ℕ → List ℕ
 zeros n = replicate n 0
@@ -17,10 +16,6 @@ length-zeros n = length-replicate n 0
 -- every place reads 0, past the end too
 pub zero-at : (n k : ℕ) → getD (zeros n) k 0 ≡ 0
 zero-at n k = elim (decLt k n) [ yes h ↦ getD-replicate n k 0 0 h | no h ↦ List·getD-eq-default (zeros n) 0 (omega (arith, length-zeros n)) ]
-
--- a list whose places all read 0 is a row of zeros
-pub all-zero : (s : List ℕ) → ((k : ℕ) → k < length s → getD s k 0 ≡ 0) → s ≡ zeros (length s)
-all-zero s h = ext-getD 0 s (zeros (length s)) (sym (length-zeros (length s))) (λ k l. h k l ∙ sym (zero-at (length s) k))
 
 -- a list that was filled from the front with zeros, at the end
 pub zeros-end : (d : List ℕ) (n : ℕ) → n ≤ length d → length d ≤ n → zeros n ++ drop n d ≡ zeros (length d)

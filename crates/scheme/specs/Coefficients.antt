@@ -21,7 +21,8 @@ use Rattle.matrix.specs.RingLaws.{S-base}
 use Rattle.scheme.specs.Streams.{blockOf, targetOf, A, B, Q1, Q2, P11, P12, P21, T12}
 use Rattle.scheme.specs.Maps.{sumM, matrixIndex, F12, F21, vinegarPart, linearPart}
 use Rattle.scheme.specs.Parts.{parts-12, parts-21}
-use Rattle.scheme.specs.Oil.{entryAt, oilFrom, SentToZero, Solves, OnlyZero, Redo, square-pos, last-digit, by-number, entry-block, entries-oilFrom, oil-from, zero-from, oil-unknowns, zero-unknowns, solves-linear}
+use Rattle.scheme.specs.Oil.{entryAt, oilFrom, SentToZero, Solves, OnlyZero, Redo, solves-linear}
+use Rattle.scheme.specs.Oil.{square-pos, last-digit, by-number, entry-block, entries-oilFrom, oil-from, zero-from, oil-unknowns, zero-unknowns}
 use Rattle.scheme.specs.Regroup.{q1Of, q2Of, powerTimes}
 
 module _ (set : Set) (public abq private : List ℕ) (vinegar : ℕ → Matrix) where
@@ -54,20 +55,20 @@ module _ (set : Set) (public abq private : List ℕ) (vinegar : ℕ → Matrix) 
 mul-assoc-right : (l : ℕ) (L M N K : Matrix) → mulM l (mulM l L (mulM l M N)) K ≡ mulM l L (mulM l M (mulM l N K))
 mul-assoc-right l L M N K = simp (matrices l .mul-assoc)
 
-pub triple-entry : (l : ℕ) (L O R : Matrix) (r c : ℕ)
+triple-entry : (l : ℕ) (L O R : Matrix) (r c : ℕ)
     → mulM l L (mulM l O R) r c ≡ sum 0 add l (λ a. sum 0 add l (λ b. mul (mul (L r a) (R b c)) (O a b)))
 unfolding mulM
 triple-entry l L O R r c = sum-cong field-ring l (λ a ha. mul-sum field-ring (L r a) l _
     ∙ sum-cong field-ring l (λ b hb. ap (mul (L r a)) (mul-comm (O a b) (R b c)) ∙ sym (mul-assoc (L r a) (R b c) (O a b))))
 
-pub triple-transpose-entry : (l : ℕ) (L O R : Matrix) (r c : ℕ)
+triple-transpose-entry : (l : ℕ) (L O R : Matrix) (r c : ℕ)
     → mulM l L (mulM l (transpose O) R) r c ≡ sum 0 add l (λ a. sum 0 add l (λ b. mul (mul (L r b) (R a c)) (O a b)))
 unfolding transpose
 triple-transpose-entry l L O R r c = triple-entry l L (transpose O) R r c ∙ sum-swap field-ring l l _
 
 module _ (set : Set) (public abq private : List ℕ) (vinegar : ℕ → Matrix) where
   -- the linear part by oil matrix
-  pub linear-by-oil : (oil : ℕ → Matrix) (i : ℕ)
+  linear-by-oil : (oil : ℕ → Matrix) (i : ℕ)
       → linearPart set public abq private vinegar oil i
       ≡ sumM (set .o) (λ k. sumM (terms set) (λ alpha. addM
       (mulM (set .l) (A set abq i alpha) (mulM (set .l) (leftSum set public abq private vinegar i alpha k)
@@ -196,7 +197,7 @@ module _ (set : Set) (public abq private : List ℕ) (vinegar : ℕ → Matrix) 
     linear-row oil y = linear-coefficients set public abq private vinegar oil _ _ _ p
 
     -- oil is sent to zero exactly when every row times its entries is zero
-    pub sent-rows : (oil : ℕ → Matrix)
+    sent-rows : (oil : ℕ → Matrix)
         → SentToZero set public abq private vinegar oil ↔ ((y : ℕ) → y < set .o * (set .l * set .l) → rowTimes (entryAt (set .l) oil) y ≡ 0)
     sent-rows oil = (
       (λ z y h. sym (linear-row oil y) ∙ by-number (set .l) (set .o) _ p .0 (z .zero) y h),
@@ -204,7 +205,7 @@ module _ (set : Set) (public abq private : List ℕ) (vinegar : ℕ → Matrix) 
     )
 
     -- oil solves exactly when every row times its entries is the vinegar part plus the target
-    pub solves-rows : (target : List ℕ) (oil : ℕ → Matrix)
+    solves-rows : (target : List ℕ) (oil : ℕ → Matrix)
         → Solves set public abq private vinegar target oil
         ↔ ((y : ℕ) → y < set .o * (set .l * set .l) → rowTimes (entryAt (set .l) oil) y ≡ add (entryAt (set .l) (vinegarPart set public abq vinegar) y) (element target y))
     unfolding targetOf

@@ -19,7 +19,7 @@ use Rattle.scheme.specs.Parts.{four-parts, change-vinegar, change-oil, c
 
 module _ (set : Set) (public private : List ℕ) where
   -- P with the generated P22, and F, are related as page 01's rules say
-  pub private-keys : (i : ℕ)
+  private-keys : (i : ℕ)
       → Keys zeroM addM (mulM (set .l)) transpose (set .v) (set .o) (T12 set private) (PWith set public (keyP22 set public private) i) (F set public private i)
   unfolding F12 F21 keyP22
   private-keys i =
@@ -44,7 +44,7 @@ module _ (set : Set) (public private : List ℕ) where
       }
 
 module _ (set : Set) (private : List ℕ) where
-  pub private-change : (U : ℕ → Matrix) → Change zeroM addM (mulM (set .l)) (set .v) (set .o) (T12 set private) U (privateChange set private U)
+  private-change : (U : ℕ → Matrix) → Change zeroM addM (mulM (set .l)) (set .v) (set .o) (T12 set private) U (privateChange set private U)
   private-change U = record { vinegar = change-vinegar set private U; oil = λ k h. change-oil set private U k }
 
   -- The private change is its own inverse.
@@ -58,16 +58,16 @@ module _ (set : Set) (private : List ℕ) where
 
 -- T12, Q1 and Q2 are elements of F16[S].
 module _ (set : Set) (some : 0 < set .l) where
-  pub T12-symmetric : (private : List ℕ) (j k : ℕ) → transpose (T12 set private j k) ≡ T12 set private j k
+  T12-symmetric : (private : List ℕ) (j k : ℕ) → transpose (T12 set private j k) ≡ T12 set private j k
   unfolding T12
   T12-symmetric private j k = algorithm1-symmetric (set .l) some _
 
-  pub T12-Q1 : (private abq : List ℕ) (i alpha j k : ℕ)
+  T12-Q1 : (private abq : List ℕ) (i alpha j k : ℕ)
       → mulM (set .l) (T12 set private j k) (Q1 set abq i alpha) ≡ mulM (set .l) (Q1 set abq i alpha) (T12 set private j k)
   unfolding T12 Q1
   T12-Q1 private abq i alpha j k = algorithm1-comm (set .l) some _ _
 
-  pub T12-Q2 : (private abq : List ℕ) (i alpha j k : ℕ)
+  T12-Q2 : (private abq : List ℕ) (i alpha j k : ℕ)
       → mulM (set .l) (T12 set private j k) (Q2 set abq i alpha) ≡ mulM (set .l) (Q2 set abq i alpha) (T12 set private j k)
   unfolding T12 Q2
   T12-Q2 private abq i alpha j k = algorithm1-comm (set .l) some _ _

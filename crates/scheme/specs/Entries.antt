@@ -1,4 +1,4 @@
--- What the maps read, and what they give: entries inside l are made of entries inside l only, and entries of the maps, of the key and of the streams are elements.
+-- What the maps read, and what stands in the key: entries inside l are made of entries inside l only, and entries of the key and of the streams are elements.
 -- So a caller that computes entries inside l computes the map. Rests on Parts and on matrix's Same.
 use mathlib.Core.Path.{_≡_, sym, ap, subst, _∙_}
 use mathlib.Core.List.{List}
@@ -13,8 +13,8 @@ use Rattle.sets.specs.declared.Set.{Set}
 use Rattle.sets.specs.Sets.{terms, variables}
 use Rattle.matrix.specs.Matrix.{Matrix, zeroM, addM, mulM, transpose}
 use Rattle.matrix.specs.Same.{Same, same-refl, same-trans, same-equal, same-add, same-mul, same-transpose, same-sum, mulM-lt, sumM-lt}
-use Rattle.scheme.specs.Streams.{blockOf, P22}
-use Rattle.scheme.specs.Maps.{sumM, parts, equation, matrixIndex, keyP22, publicMapWith, publicMap, centralMap, privateChange}
+use Rattle.scheme.specs.Streams.{blockOf}
+use Rattle.scheme.specs.Maps.{sumM, parts, equation, matrixIndex, keyP22, publicMapWith, centralMap, privateChange}
 use Rattle.scheme.specs.Parts.{four-parts, vinegar-or-oil, by-parts, change-vinegar, change-oil, change-past}
 
 -- ---- which entry an element is
@@ -108,25 +108,7 @@ addM-lt M N r c hM hN = add-lt (M r c) (N r c) hM hN
 products-lt : (n l : ℕ) (M N : ℕ → Matrix) (r c : ℕ) → sumM n (λ a. mulM l (M a) (N a)) r c < 16
 products-lt n l M N r c = sumM-lt n _ r c (λ k h. mulM-lt l _ _ r c)
 
--- a value is a sum of products, so its entries are elements whatever the ingredients are
-pub value-lt : (l terms n : ℕ) (L q : ℕ → Matrix) (M : ℕ → ℕ → ℕ → Matrix) (p B U : ℕ → Matrix) (r c : ℕ)
-    → value zeroM addM (mulM l) transpose terms n L q M p B U r c < 16
-unfolding value
-value-lt l terms n L q M p B U r c =
-    sumM-lt terms _ r c (λ α h. sumM-lt n _ r c (λ j hj. sumM-lt n _ r c (λ k hk. mulM-lt l _ _ r c)))
-
 module _ (set : Set) where
-  pub publicMapWith-lt : (public abq : List ℕ) (P22s : ℕ → ℕ → ℕ → Matrix) (U : ℕ → Matrix) (i r c : ℕ) → publicMapWith set public abq P22s U i r c < 16
-  unfolding publicMapWith equation
-  publicMapWith-lt public abq P22s U i r c = value-lt (set .l) (terms set) (variables set) _ _ _ _ _ _ r c
-
-  pub publicMap-lt : (public abq key : List ℕ) (U : ℕ → Matrix) (i r c : ℕ) → publicMap set public abq key U i r c < 16
-  publicMap-lt public abq key U i r c = publicMapWith-lt public abq (P22 set key) U i r c
-
-  pub centralMap-lt : (public abq private : List ℕ) (X : ℕ → Matrix) (i r c : ℕ) → centralMap set public abq private X i r c < 16
-  unfolding centralMap equation
-  centralMap-lt public abq private X i r c = value-lt (set .l) (terms set) (variables set) _ _ _ _ _ _ r c
-
   pub keyP22-lt : (public private : List ℕ) (i j k r c : ℕ) → keyP22 set public private i j k r c < 16
   unfolding keyP22
   keyP22-lt public private i j k r c = addM-lt _ _ r c (products-lt (set .v) (set .l) _ _ r c) (products-lt (set .v) (set .l) _ _ r c)

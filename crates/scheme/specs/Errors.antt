@@ -13,7 +13,8 @@ use Rattle.algebra.specs.Powers.{power, polynomial}
 use Rattle.field.specs.Field.{add, mul, times}
 use Rattle.packing.specs.Packing.{element, half, packedBytes, byteOf, packed}
 use Rattle.sets.specs.declared.Set.{Set}
-use Rattle.sets.specs.Sets.{allowedSet, terms, variables, publicCount, abqCount, targetCount, keyCount, signatureCount, publicBytes, abqBytes, targetBytes, keyBytes, signatureBytes}
+use Rattle.sets.specs.Sets.{allowedSet, terms, variables, publicCount, abqCount, targetCount, keyCount, signatureCount}
+use Rattle.sets.specs.Sets.{publicBytes, abqBytes, targetBytes, keyBytes, signatureBytes}
 use Rattle.refusals.specs.Rules.{verdictRules}
 use Rattle.matrix.specs.Matrix.{Matrix, addM, mulM, transpose, scaleM}
 use Rattle.matrix.specs.MatrixRing.{matrices}

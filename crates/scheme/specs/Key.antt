@@ -9,8 +9,8 @@ use native.Mathlib.Omega.{arith}
 use lib.Arith.{digits-lt, digits-div, digits-mod}
 use lib.ListN.{length}
 use Rattle.ground.specs.Fill.{tab, length-tab, getD-tab}
-use Rattle.packing.specs.Packing.{element, packedBytes, packed, inField, Bytes}
-use Rattle.packing.specs.Laws.{lt-in-field, element-packed, length-packed, bytes-packed}
+use Rattle.packing.specs.Packing.{element, packedBytes, packed, inField}
+use Rattle.packing.specs.Laws.{in-field-tab, element-packed, length-packed}
 use Rattle.sets.specs.declared.Set.{Set}
 use Rattle.sets.specs.Sets.{keyCount, keyBytes}
 use Rattle.matrix.specs.Matrix.{Matrix}
@@ -22,10 +22,10 @@ use Rattle.scheme.specs.Entries.{publicMapWith-same, keyP22-lt}
 
 -- a list made of elements by a rule is in the field
 pub tab-in-field : (n : ℕ) (f : ℕ → ℕ) → ((e : ℕ) → f e < 16) → inField (tab n f) ≡ true
-tab-in-field n f small = lt-in-field (tab n f) (λ e h. rw (getD-tab n f e (omega (arith, length-tab n f))) (small e))
+tab-in-field n f small = in-field-tab n f (λ e h. small e)
 
 -- A stream that is made of elements by a rule: every element is read back.
-pub element-tab : (n : ℕ) (f : ℕ → ℕ) → ((e : ℕ) → f e < 16) → (e : ℕ) → e < n → element (packed (tab n f)) e ≡ f e
+element-tab : (n : ℕ) (f : ℕ → ℕ) → ((e : ℕ) → f e < 16) → (e : ℕ) → e < n → element (packed (tab n f)) e ≡ f e
 element-tab n f small e h = element-packed (tab n f) (tab-in-field n f small) e ∙ getD-tab n f e h
 
 module _ (set : Set) (public private : List ℕ) where
@@ -34,7 +34,7 @@ module _ (set : Set) (public private : List ℕ) where
   keyElement-lt e = keyP22-lt set public private _ _ _ _ _
 
   -- element e of the key
-  pub keyOf-element : (e : ℕ) → e < keyCount set → element (keyOf set public private) e ≡ keyElement set public private e
+  keyOf-element : (e : ℕ) → e < keyCount set → element (keyOf set public private) e ≡ keyElement set public private e
   unfolding keyOf
   keyOf-element e h = element-tab (keyCount set) (keyElement set public private) keyElement-lt e h
 
@@ -42,13 +42,9 @@ module _ (set : Set) (public private : List ℕ) where
   unfolding keyOf keyBytes packedBytes
   length-keyOf = length-packed _ ∙ ap packedBytes (length-tab (keyCount set) (keyElement set public private))
 
-  pub bytes-keyOf : Bytes (keyOf set public private)
-  unfolding keyOf
-  bytes-keyOf = bytes-packed _ (tab-in-field (keyCount set) (keyElement set public private) keyElement-lt)
-
   module _ {i j k r c : ℕ} (hi : i < set .o) (hj : j < set .o) (hk : k < set .o) (hr : r < set .l) (hc : c < set .l) where
     -- entry (r, c) of block (i, j, k) is an element of the key
-    pub keyNumber-lt : p22Number set i j k * (set .l * set .l) + (r * set .l + c) < keyCount set
+    keyNumber-lt : p22Number set i j k * (set .l * set .l) + (r * set .l + c) < keyCount set
     unfolding keyCount
     keyNumber-lt = digits-lt (digits-lt (digits-lt hi hj) hk) (digits-lt hr hc)
 
@@ -77,7 +73,7 @@ module _ (set : Set) (public private : List ℕ) where
 
   module _ (abq : List ℕ) (U : ℕ → Matrix) (i : ℕ) where
     -- The composition for any P22 with the generated entries.
-    pub composition-with : (P22s : ℕ → ℕ → ℕ → Matrix)
+    composition-with : (P22s : ℕ → ℕ → ℕ → Matrix)
         → ((i j k : ℕ) → i < set .o → j < set .o → k < set .o → Same (set .l) (P22s i j k) (keyP22 set public private i j k))
         → Same (set .l) (publicMapWith set public abq P22s U i) (centralMap set public abq private (privateChange set private U) i)
     composition-with P22s e =
@@ -87,7 +83,7 @@ module _ (set : Set) (public private : List ℕ) where
         }
 
     -- for any key with those entries, whatever stands in a spare half
-    pub key-composition-of : (key : List ℕ)
+    key-composition-of : (key : List ℕ)
         → ((i j k : ℕ) → i < set .o → j < set .o → k < set .o → Same (set .l) (P22 set key i j k) (keyP22 set public private i j k))
         → Same (set .l) (publicMap set public abq key U i) (centralMap set public abq private (privateChange set private U) i)
     key-composition-of key e = composition-with (P22 set key) e

@@ -5,12 +5,11 @@ use mathlib.Core.List.{List}
 use Prim.Native.Nat.{ℕ, _+_, _<_}
 use Rattle.algebra.specs.Map.{value, value-cong}
 use Rattle.algebra.specs.Split as Split
-use Rattle.field.specs.Laws.{add-lt}
 use Rattle.sets.specs.declared.Set.{Set}
 use Rattle.sets.specs.Sets.{terms}
-use Rattle.matrix.specs.Matrix.{Matrix, zeroM, addM, scaleM}
+use Rattle.matrix.specs.Matrix.{Matrix, addM, scaleM}
 use Rattle.matrix.specs.MatrixRing.{matrices, matrices-scaled}
-use Rattle.matrix.specs.Same.{Same, same-refl, same-add, same-mul, same-transpose, same-sum, mulM-lt, sumM-lt}
+use Rattle.matrix.specs.Same.{mulM-lt, sumM-lt}
 use Rattle.scheme.specs.Streams.{A, B, Q1, Q2}
 use Rattle.scheme.specs.Maps.{equation, matrixIndex, F, centralMap, vinegarPart, linearPart}
 use Rattle.scheme.specs.Parts.{parts-11, parts-22}
@@ -27,7 +26,7 @@ module _ (set : Set) (public abq private : List ℕ) where
       ∙ ap₂ addM (value-cong (matrices (set .l)) (terms set) (set .v) (λ alpha h. refl) (λ alpha h. refl)
       (λ alpha j k h hj hk. parts-11 (set .v) _ _ _ _ j k hj hk) (λ alpha h. refl) (λ alpha h. refl) (λ j h. refl)) refl
 
-  -- the linear part is additive in the oil, sends zero to zero, and commutes with scalars
+  -- the linear part is additive in the oil, and commutes with scalars
 
   pub linearPart-add : (vinegar oil oil′ : ℕ → Matrix) (i : ℕ)
       → linearPart set public abq private vinegar (λ k. addM (oil k) (oil′ k)) i
@@ -35,35 +34,13 @@ module _ (set : Set) (public abq private : List ℕ) where
   unfolding linearPart
   linearPart-add vinegar oil oil′ i = Split.linearPart-add (matrices (set .l)) _ _ _ _ _ _ _ _ _ oil oil′
 
-  pub linearPart-zero : (vinegar : ℕ → Matrix) {oil : ℕ → Matrix} → ((k : ℕ) → k < set .o → oil k ≡ zeroM) → (i : ℕ)
-      → linearPart set public abq private vinegar oil i ≡ zeroM
-  unfolding linearPart
-  linearPart-zero vinegar e i = Split.linearPart-zero (matrices (set .l)) _ _ _ _ _ _ _ _ _ e
-
   pub linearPart-scale : (vinegar : ℕ → Matrix) (a : ℕ) (oil : ℕ → Matrix) (i : ℕ)
       → linearPart set public abq private vinegar (λ k. scaleM a (oil k)) i ≡ scaleM a (linearPart set public abq private vinegar oil i)
   unfolding linearPart
   linearPart-scale vinegar a oil i = Split.linearPart-scale (matrices (set .l)) _ _ _ _ _ _ _ _ _ (matrices-scaled (set .l)) a oil
 
-  -- the linear part reads vinegar and oil inside l only
-  pub linearPart-same : {vinegar vinegar′ oil oil′ : ℕ → Matrix}
-      → ((j : ℕ) → j < set .v → Same (set .l) (vinegar j) (vinegar′ j)) → ((k : ℕ) → k < set .o → Same (set .l) (oil k) (oil′ k)) → (i : ℕ)
-      → Same (set .l) (linearPart set public abq private vinegar oil i) (linearPart set public abq private vinegar′ oil′ i)
-  unfolding linearPart Split.linearPart
-  linearPart-same sv so i =
-      same-sum (terms set) (λ alpha h. same-sum (set .v) (λ j hj. same-sum (set .o) (λ k hk. same-add
-      (same-mul same-refl (same-mul (same-transpose (sv j hj)) (same-mul same-refl (same-mul same-refl (same-mul same-refl (same-mul (so k hk) same-refl))))))
-      (same-mul same-refl (same-mul (same-transpose (so k hk)) (same-mul same-refl (same-mul same-refl (same-mul same-refl (same-mul (sv j hj) same-refl)))))))))
-
-  -- the entries of the vinegar part and of the linear part are elements
-
+  -- the entries of the vinegar part are elements
   pub vinegarPart-lt : (vinegar : ℕ → Matrix) (i r c : ℕ) → vinegarPart set public abq vinegar i r c < 16
   unfolding vinegarPart equation value
   vinegarPart-lt vinegar i r c =
       sumM-lt (terms set) _ r c (λ alpha h. sumM-lt (set .v) _ r c (λ j hj. sumM-lt (set .v) _ r c (λ k hk. mulM-lt (set .l) _ _ r c)))
-
-  pub linearPart-lt : (vinegar oil : ℕ → Matrix) (i r c : ℕ) → linearPart set public abq private vinegar oil i r c < 16
-  unfolding linearPart Split.linearPart addM
-  linearPart-lt vinegar oil i r c =
-      sumM-lt (terms set) _ r c (λ alpha h. sumM-lt (set .v) _ r c (λ j hj. sumM-lt (set .o) _ r c (λ k hk.
-      add-lt _ _ (mulM-lt (set .l) _ _ r c) (mulM-lt (set .l) _ _ r c))))

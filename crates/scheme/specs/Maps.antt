@@ -15,7 +15,7 @@ use Rattle.sets.specs.declared.Set.{Set}
 use Rattle.sets.specs.Sets.{terms, variables, keyCount}
 use Rattle.matrix.specs.Matrix.{Matrix, zeroM, addM, mulM, transpose}
 use Rattle.matrix.specs.Invertible.{canBeInvertible}
-use Rattle.scheme.specs.Streams.{blockOf, aNumber, bNumber, P11, P12, P21, P22, A, B, Q1, Q2, T12, targetOf}
+use Rattle.scheme.specs.Streams.{blockOf, P11, P12, P21, P22, A, B, Q1, Q2, T12, targetOf}
 
 -- the finite sum of matrices
 abbrev pub sumM : ℕ → (ℕ → Matrix) → Matrix

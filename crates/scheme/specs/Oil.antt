@@ -2,7 +2,7 @@
 -- "If only all-zero oil is sent to zero, the one oil choice that makes the central map equal the target is found. Otherwise redo."
 -- An oil choice is also a row of o·l² unknowns: unknown e = k·l² + (a·l + b) is entry (a, b) of oil matrix k.
 -- Rests on Linear: the central map is the vinegar part plus the linear part, and the linear part is additive.
-use mathlib.Core.Path.{_≡_, refl, sym, ap, ap₂, _∙_, fun-ext}
+use mathlib.Core.Path.{_≡_, sym, ap, ap₂, _∙_, fun-ext}
 use mathlib.Core.Logic.{_↔_}
 use mathlib.Core.List.{List}
 use Prim.Native.Nat.{ℕ, _+_, _-_, _*_, _/_, _%_, _<_}
@@ -18,11 +18,11 @@ use Rattle.field.specs.Laws.{add-lt, add-self, add-zero}
 use Rattle.field.specs.FieldRing.{field-ring}
 use Rattle.packing.specs.Packing.{element}
 use Rattle.sets.specs.declared.Set.{Set}
-use Rattle.matrix.specs.Matrix.{Matrix, zeroM, addM}
-use Rattle.matrix.specs.Same.{Same, same-refl}
+use Rattle.matrix.specs.Matrix.{Matrix, addM}
+use Rattle.matrix.specs.Same.{Same}
 use Rattle.scheme.specs.Streams.{blockOf, targetOf}
 use Rattle.scheme.specs.Maps.{centralMap, vinegarPart, linearPart}
-use Rattle.scheme.specs.Linear.{centralMap-split, linearPart-add, linearPart-zero, linearPart-same}
+use Rattle.scheme.specs.Linear.{centralMap-split, linearPart-add}
 
 -- X: the first v matrices are the vinegar, the others the oil
 unfoldable pub joined : Set → (vinegar oil : ℕ → Matrix) → ℕ → Matrix
@@ -124,7 +124,7 @@ module _ (l : ℕ) where
 
   -- the oil made from unknowns has them as its entries
 
-  pub entry-oilFrom : (s : ℕ → ℕ) (e : ℕ) → entryAt l (oilFrom l s) e ≡ s e
+  entry-oilFrom : (s : ℕ → ℕ) (e : ℕ) → entryAt l (oilFrom l s) e ≡ s e
   unfolding oilFrom
   entry-oilFrom s e = ap s (number-is e)
 
@@ -154,24 +154,16 @@ module _ {set : Set} (p : 0 < set .l) where
 
 -- ---- sums of oil choices
 
-pub oil-add : {set : Set} {oil oil′ : ℕ → Matrix} → Oil set oil → Oil set oil′ → Oil set (λ k. addM (oil k) (oil′ k))
+oil-add : {set : Set} {oil oil′ : ℕ → Matrix} → Oil set oil → Oil set oil′ → Oil set (λ k. addM (oil k) (oil′ k))
 unfolding addM
 oil-add a b = record { element = λ k r c hk hr hc. add-lt _ _ (a .element k r c hk hr hc) (b .element k r c hk hr hc) }
 
 -- two choices whose sum is all zero agree
-pub zero-sum-same : {set : Set} (oil oil′ : ℕ → Matrix) → AllZero set (λ k. addM (oil k) (oil′ k)) → (k : ℕ) → k < set .o → Same (set .l) (oil k) (oil′ k)
+zero-sum-same : {set : Set} (oil oil′ : ℕ → Matrix) → AllZero set (λ k. addM (oil k) (oil′ k)) → (k : ℕ) → k < set .o → Same (set .l) (oil k) (oil′ k)
 unfolding addM
 zero-sum-same oil oil′ z k hk = record { at = λ r c hr hc. add-cancel field-ring (z .zero k r c hk hr hc) }
 
 module _ {set : Set} {public abq private : List ℕ} {vinegar : ℕ → Matrix} where
-  -- all-zero oil is always sent to zero
-  pub zero-sent : {oil : ℕ → Matrix} → AllZero set oil → SentToZero set public abq private vinegar oil
-  zero-sent {oil} z = record {
-    zero = λ i r c hi hr hc.
-        linearPart-same set public abq private {oil′ = λ k. zeroM} (λ j h. same-refl) (λ k hk. record { at = λ r c hr hc. z .zero k r c hk hr hc }) i .at r c hr hc
-        ∙ ap (λ M. M r c) (linearPart-zero set public abq private vinegar (λ k h. refl) i);
-  }
-
   module _ {target : List ℕ} where
     -- an oil choice solves exactly when the linear part equals the vinegar part plus the target
     pub solves-linear : {oil : ℕ → Matrix} → Solves set public abq private vinegar target oil ↔ LinearSolves set public abq private vinegar target oil
@@ -187,7 +179,7 @@ module _ {set : Set} {public abq private : List ℕ} {vinegar : ℕ → Matrix} 
         parted i r c = ap (λ M. M r c) (centralMap-split set public abq private (joined-vinegar set vinegar oil) (λ k h. joined-oil set vinegar oil k) i)
 
     -- the sum of two solutions is sent to zero
-    pub solutions-sum : {oil oil′ : ℕ → Matrix} → Solves set public abq private vinegar target oil → Solves set public abq private vinegar target oil′
+    solutions-sum : {oil oil′ : ℕ → Matrix} → Solves set public abq private vinegar target oil → Solves set public abq private vinegar target oil′
         → SentToZero set public abq private vinegar (λ k. addM (oil k) (oil′ k))
     unfolding addM
     solutions-sum {oil} {oil′} s t = record {
@@ -197,7 +189,7 @@ module _ {set : Set} {public abq private : List ℕ} {vinegar : ℕ → Matrix} 
     }
 
     -- a solution plus what is sent to zero is a solution
-    pub solution-shift : {oil oil′ : ℕ → Matrix} → Solves set public abq private vinegar target oil → SentToZero set public abq private vinegar oil′
+    solution-shift : {oil oil′ : ℕ → Matrix} → Solves set public abq private vinegar target oil → SentToZero set public abq private vinegar oil′
         → Solves set public abq private vinegar target (λ k. addM (oil k) (oil′ k))
     unfolding addM
     solution-shift {oil} {oil′} s z = solves-linear .1 (record {

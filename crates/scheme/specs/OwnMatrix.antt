@@ -17,12 +17,14 @@ use Rattle.ground.specs.Answers.{lowest, met-none, met-more, lowest-met}
 use Rattle.ground.specs.Tests.{every}
 use Rattle.algebra.specs.Ring.{zero-mul, mul-zero}
 use Rattle.algebra.specs.Sum.{sum, sum-zeros, sum-one, sum-add}
+use Rattle.algebra.specs.Map.{value-first}
 use Rattle.algebra.specs.Powers.{power, polynomial}
 use Rattle.field.specs.Field.{add, mul, times}
 use Rattle.field.specs.Laws as Field
 use Rattle.packing.specs.Packing.{packedBytes}
 use Rattle.sets.specs.declared.Set.{Set}
-use Rattle.sets.specs.Sets.{leastL, mostL, allowedSet, terms, variables, publicCount, abqCount, targetCount, keyCount, signatureCount, publicBytes, abqBytes, targetBytes, keyBytes, signatureBytes}
+use Rattle.sets.specs.Sets.{leastL, mostL, allowedSet, terms, variables, publicCount, abqCount, targetCount, keyCount, signatureCount}
+use Rattle.sets.specs.Sets.{publicBytes, abqBytes, targetBytes, keyBytes, signatureBytes}
 use Rattle.refusals.specs.Rules.{verdictRules}
 use Rattle.sets.specs.Bounds.{Limits, limits}
 use Rattle.matrix.specs.Matrix.{Matrix, zeroM, addM, mulM, transpose, scaleM}
@@ -30,6 +32,8 @@ use Rattle.matrix.specs.MatrixRing.{matrices}
 use Rattle.matrix.specs.RingElements.{S, oneM, coefficient, algorithm1}
 use Rattle.matrix.specs.Determinant.{det, minor, skip}
 use Rattle.matrix.specs.Invertible.{invertible, shift, firstFrom, shiftOf, canBeInvertible, algorithm2}
+use Rattle.matrix.specs.InvertibleLaws.{algorithm2-same, canBeInvertible-same}
+use Rattle.matrix.specs.RingSteps.{algorithm1-cong}
 use Rattle.matrix.specs.Same.{Same, same-refl, same-sym, same-trans, same-equal, same-mul, same-sum}
 use Rattle.scheme.specs.Streams.{blockOf, groupOf, p11Number, P11, P22, aNumber, bNumber, q1Number, q2Number, A, B, Q1, Q2, signatureOf}
 use Rattle.scheme.specs.Maps.{sumM, equation, matrixIndex, PWith, publicMapWith, publicMap, allInvertible}
@@ -38,7 +42,7 @@ use Rattle.scheme.specs.Entries.{value-same}
 use Rattle.ground.specs.Tests.{every-at, every-true}
 use Rattle.scheme.specs.Verdict.{verdictRefusals}
 use Rattle.scheme.specs.Errors.{ownMatrixMap}
-use Rattle.scheme.specs.Single.{corner, corner-zero, single, length-single, single-element, single-block, algorithm2-same, canBeInvertible-same, algorithm1-cong, corner-between, corner-symmetric, corner-pick, value-first}
+use Rattle.scheme.specs.Single.{corner, corner-zero, single, length-single, single-element, single-block, corner-between, corner-symmetric, corner-pick}
 
 -- ---- what is computed, for each l
 
@@ -147,7 +151,7 @@ module _ (set : Set) (h : Limits set) (many : 1 < set .o) where
     groups : (g : ℕ) → 2 * (set .o * terms set) * set .l ≤ g → algorithm1 (set .l) (groupOf (set .l) (abq x) g) ≡ zeroQ (set .l)
     unfolding groupOf
     groups g late =
-        algorithm1-cong (set .l) l-some _ _
+        algorithm1-cong (set .l)
         (λ k hk.
         let ot : 1 ≤ set .o * terms set = mul-pos (h .o-least) (omega (arith, terms-some)) in
         let many-blocks : 2 * 1 * set .l * set .l ≤ 2 * (set .o * terms set) * set .l * set .l = mul-le-mul-right (set .l) (mul-le-mul-right (set .l) (mul-le-mul-left 2 ot)) in
@@ -272,5 +276,6 @@ own-matrix-only-one set allowed agree = elim (decLt 1 (set .o)) [ yes many ↦ a
     never : 1 < set .o → ⊥
     never many =
         let h = limits set allowed in
-        let zero-total : (x : ℕ) → x < 2 → total set h many (matrixIndex set) x 0 0 ≡ 0 = λ x few. agree-zero set h many x (omega arith) (agree _ _ _ _ _ (taken set h many x few allowed) 0 (omega arith)) in
+        let zero-total : (x : ℕ) → x < 2 → total set h many (matrixIndex set) x 0 0 ≡ 0 =
+        λ x few. agree-zero set h many x (omega arith) (agree _ _ _ _ _ (taken set h many x few allowed) 0 (omega arith)) in
         not-both-zero set h many (ap₂ add (zero-total 1 (omega arith)) (zero-total 0 (omega arith)) ∙ Field.add-zero 0)

@@ -1,25 +1,19 @@
 -- All powers of S at once: Q1 and Q2 are polynomials in S, so the sums over j and k are taken once for each matrix and pair of powers,
 -- and Q1 and Q2 enter by their coefficients. So the verdict and the vinegar part can be computed.
 -- Rests on algebra's `value-regroup` at S.
-use mathlib.Core.Path.{_≡_, refl, sym, _∙_}
+use mathlib.Core.Path.{_≡_, refl, sym}
 use mathlib.Core.List.{List}
-use Prim.Native.Nat.{ℕ, _+_, _%_, _<_}
-use native.Mathlib.Nat.{mod-eq-of-lt}
-use native.Mathlib.Numerals.{add-one}
-use borrow.Author.Tests.{eq-eqb, ne-eqb}
-use Rattle.algebra.specs.Sum.{sum, sum-cong, sum-one, sum-swap, mul-sum, sum-mul}
+use Prim.Native.Nat.{ℕ, _<_}
+use Rattle.algebra.specs.Sum.{sum, sum-cong, mul-sum}
 use Rattle.algebra.specs.Map.{quad}
-use Rattle.algebra.specs.Powers.{power}
 use Rattle.algebra.specs.Regroup.{value-regroup}
 use Rattle.field.specs.Field.{add, mul}
-use Rattle.field.specs.Laws.{one-mul, zero-mul}
-use Rattle.field.specs.FieldRing.{field-ring}
 use Rattle.sets.specs.declared.Set.{Set}
 use Rattle.sets.specs.Sets.{terms, variables}
 use Rattle.matrix.specs.Matrix.{Matrix, mulM, transpose, scaleM}
 use Rattle.matrix.specs.MatrixRing.{matrices, matrices-scaled}
-use Rattle.matrix.specs.Same.{Same, sum-entry}
-use Rattle.matrix.specs.RingElements.{oneM, S, powerS, coefficient, algorithm1}
+use Rattle.matrix.specs.Same.{sum-entry}
+use Rattle.matrix.specs.RingElements.{powerS, coefficient, algorithm1}
 use Rattle.matrix.specs.RingLaws.{S-base}
 use Rattle.scheme.specs.Streams.{groupOf, q1Number, q2Number, A, B, Q1, Q2, P11}
 use Rattle.scheme.specs.Maps.{sumM, equation, matrixIndex, PWith, publicMapWith, vinegarPart}
@@ -44,7 +38,7 @@ abbrev pub gathered : (l n : ℕ) (a b : ℕ → ℕ) (M : ℕ → ℕ → Matri
 gathered l n a b M U = sumM l (λ x. sumM l (λ y. scaleM (a x) (scaleM (b y) (powerSums l n M U x y))))
 
 -- a map's equation by powers, where Q1 and Q2 come from Algorithm 1
-pub equation-regroup : (l n count : ℕ) (index : ℕ → ℕ → ℕ) (As : ℕ → ℕ → Matrix) (g1 : ℕ → ℕ → ℕ → ℕ) (M : ℕ → ℕ → ℕ → Matrix)
+equation-regroup : (l n count : ℕ) (index : ℕ → ℕ → ℕ) (As : ℕ → ℕ → Matrix) (g1 : ℕ → ℕ → ℕ → ℕ) (M : ℕ → ℕ → ℕ → Matrix)
     (g2 : ℕ → ℕ → ℕ → ℕ) (Bs : ℕ → ℕ → Matrix) (U : ℕ → Matrix) (i : ℕ) → 0 < l
     → equation l n count index As (λ i alpha. algorithm1 l (g1 i alpha)) M (λ i alpha. algorithm1 l (g2 i alpha)) Bs U i
     ≡ sumM count (λ alpha. mulM l (As i alpha)
@@ -80,13 +74,6 @@ module _ (set : Set) (public abq : List ℕ) (p : 0 < set .l) where
 -- ---- the double sum, one index after the other
 
 module _ (l n : ℕ) (M : ℕ → ℕ → Matrix) (U : ℕ → Matrix) (x y : ℕ) where
-  pub powerSums-by-left :
-      powerSums l n M U x y ≡ sumM n (λ k. mulM l (sumM n (λ j. mulM l (transpose (powerTimes l x (U j))) (M j k))) (powerTimes l y (U k)))
-  unfolding powerSums
-  powerSums-by-left =
-      sum-swap (matrices l) n n _
-      ∙ sum-cong (matrices l) n (λ k h. sum-cong (matrices l) n (λ j g. sym (matrices l .mul-assoc _ _ _)) ∙ sym (sum-mul (matrices l) (powerTimes l y (U k)) n _))
-
   pub powerSums-by-right :
       powerSums l n M U x y ≡ sumM n (λ j. mulM l (transpose (powerTimes l x (U j))) (sumM n (λ k. mulM l (M j k) (powerTimes l y (U k)))))
   unfolding powerSums
@@ -105,32 +92,3 @@ pub transposed-entry : (l n : ℕ) (X Y : ℕ → Matrix) (r c : ℕ)
     → sumM n (λ j. mulM l (transpose (X j)) (Y j)) r c ≡ sum 0 add n (λ j. sum 0 add l (λ a. mul (X j a r) (Y j a c)))
 unfolding transpose
 transposed-entry l n X Y r c = products-entry l n (λ j. transpose (X j)) Y r c
-
--- the double sum of Xjᵗ · M(j,k) · Yk, by its rows: row a of block row j first, over all columns
-pub quad-entry : (l n m : ℕ) (X : ℕ → Matrix) (M : ℕ → ℕ → Matrix) (Y : ℕ → Matrix) (r c : ℕ)
-    → sumM n (λ j. sumM m (λ k. mulM l (transpose (X j)) (mulM l (M j k) (Y k)))) r c
-    ≡ sum 0 add n (λ j. sum 0 add l (λ a. mul (X j a r) (sum 0 add m (λ k. sum 0 add l (λ b. mul (M j k a b) (Y k b c))))))
-unfolding mulM transpose
-quad-entry l n m X M Y r c = sum-entry n _ r c ∙ sum-cong field-ring n (λ j hj.
-    sum-entry m _ r c ∙ sum-swap field-ring m l _ ∙ sum-cong field-ring l (λ a ha. sym (mul-sum field-ring (X j a r) m _)))
-
-pub powerSums-entry : (l n : ℕ) (M : ℕ → ℕ → Matrix) (U : ℕ → Matrix) (x y r c : ℕ)
-    → powerSums l n M U x y r c
-    ≡ sum 0 add n (λ j. sum 0 add l (λ a. mul (powerTimes l x (U j) a r)
-    (sum 0 add n (λ k. sum 0 add l (λ b. mul (M j k a b) (powerTimes l y (U k) b c))))))
-unfolding powerSums
-powerSums-entry l n M U x y r c = quad-entry l n n (λ j. powerTimes l x (U j)) M (λ k. powerTimes l y (U k)) r c
-
--- the powers one after the other: U itself first, then S times the one before
-
-pub power-first : (l : ℕ) (U : Matrix) → ((r c : ℕ) → r < l → c < l → U r c < 16) → Same l (powerTimes l 0 U) U
-unfolding mulM oneM power
-power-first l U h = record {
-  at = λ r c hr hc.
-      sum-one field-ring l r _ hr (λ k hk n. rw (mod-eq-of-lt hr, mod-eq-of-lt hk, ne-eqb r k (λ e. n (sym e))) (zero-mul (U k c)))
-      ∙ rw (eq-eqb (r % l) (r % l) refl) (one-mul (U r c) (h r c hr hc));
-}
-
-pub power-next : (l x : ℕ) (U : Matrix) → powerTimes l (x + 1) U ≡ mulM l (S l) (powerTimes l x U)
-unfolding power
-power-next l x U = rw (add-one x) (matrices l .mul-assoc (S l) (powerS l x) U)

@@ -1,34 +1,27 @@
--- Streams with a single element that is not 0, the matrices in them, and what Algorithms 1 and 2 and the maps make of these.
--- `value-first` belongs to algebra's Map; what Algorithms 1 and 2 read belongs to matrix. Rests on Streams, Key and on packing's laws.
-use mathlib.Core.Path.{_≡_, refl, sym, ap, ap₂, _∙_}
-use mathlib.Core.Logic.{_≢_}
-use mathlib.Core.Bool.{Bool, true, false, not}
+-- Streams with a single element that is not 0, and the matrices in them: a corner, and its products.
+-- Rests on Streams, Key and on packing's laws.
+use mathlib.Core.Path.{_≡_, refl, sym, ap, _∙_}
+use mathlib.Core.Bool.{Bool, true, false}
 use mathlib.Core.List.{List}
-use Prim.Native.Nat.{ℕ, zero, suc, _+_, _*_, _/_, _%_, _<_}
+use Prim.Native.Nat.{ℕ, _+_, _*_, _/_, _%_, _<_}
 use native.Mathlib.Nat.{mul-pos}
 use native.Mathlib.Decide.{decLt, ℕ-discrete}
 use native.Mathlib.Omega.{arith}
 use borrow.Author.Tests.{eq-eqb, ne-eqb}
 use lib.Arith.{digits-div, digits-mod, digits-lt}
-use lib.Dec.{eqb, ltb}
+use lib.Dec.{eqb}
 use lib.ListN.{length, List·getD-eq-default}
 use Rattle.ground.specs.Pick.{pick}
 use Rattle.ground.specs.Fill.{tab, length-tab, getD-tab}
-use Rattle.algebra.specs.Ring.{Ring, zero-mul, mul-zero, tr-zero}
-use Rattle.algebra.specs.Sum.{sum, sum-cong, sum-zeros, sum-one}
-use Rattle.algebra.specs.Map.{value}
-use Rattle.algebra.specs.Powers.{polynomial}
+use Rattle.algebra.specs.Sum.{sum-zeros, sum-one}
 use Rattle.field.specs.Field.{mul}
 use Rattle.field.specs.Laws as Field
 use Rattle.field.specs.FieldRing.{field-ring}
 use Rattle.packing.specs.Packing.{element, packedBytes, packed}
 use Rattle.packing.specs.Laws.{element-packed, length-packed}
 use Rattle.matrix.specs.Matrix.{Matrix, zeroM, mulM, transpose}
-use Rattle.matrix.specs.MatrixRing.{entries, matrices}
-use Rattle.matrix.specs.RingElements.{coefficient, algorithm1}
-use Rattle.matrix.specs.Determinant.{det-same}
-use Rattle.matrix.specs.Invertible.{invertible, shift, firstFrom, shiftOf, canBeInvertible, algorithm2}
-use Rattle.matrix.specs.Same.{Same, same-refl, same-trans, same-equal, same-add}
+use Rattle.matrix.specs.MatrixRing.{entries}
+use Rattle.matrix.specs.Same.{Same}
 use Rattle.scheme.specs.Streams.{blockOf}
 use Rattle.scheme.specs.Key.{tab-in-field}
 
@@ -90,39 +83,7 @@ single-block l count b x inside small b′ =
     entry r c hr hc (yes p) (no q) = rw (ne-eqb _ _ (λ e. q (same-place hr hc e .0)), eq-eqb (r + c) 0 p, ne-eqb b′ b q)
     entry r c hr hc (no p) d = rw (ne-eqb _ _ (λ e. p (same-place hr hc e .1)), ne-eqb (r + c) 0 p)
 
--- ---- what Algorithms 1 and 2 read
-
-module _ {l : ℕ} {M N : Matrix} (s : Same l M N) where
-  shift-same : (a : ℕ) → Same l (shift l M a) (shift l N a)
-  unfolding shift
-  shift-same a = same-add s same-refl
-
-  shift-invertible : (a : ℕ) → invertible l (shift l M a) ≡ invertible l (shift l N a)
-  unfolding invertible
-  shift-invertible a = ap (λ d. not (eqb d 0)) (det-same l (shift-same a))
-
-  firstFrom-same : (n a : ℕ) → firstFrom l M n a ≡ firstFrom l N n a
-  unfolding firstFrom
-  firstFrom-same zero a = refl
-  firstFrom-same (suc n) a = ap₂ (λ t x. pick t a x) (shift-invertible a) (firstFrom-same n (a + 1))
-
-  shiftOf-same : shiftOf l M ≡ shiftOf l N
-  unfolding shiftOf invertible
-  shiftOf-same = ap₂ (λ d x. pick (not (eqb d 0)) 0 x) (det-same l s) (firstFrom-same 15 1)
-
-  pub algorithm2-same : Same l (algorithm2 l M) (algorithm2 l N)
-  unfolding algorithm2
-  algorithm2-same = same-trans (same-equal (ap (shift l M) shiftOf-same)) (shift-same (shiftOf l N))
-
-  pub canBeInvertible-same : canBeInvertible l M ≡ canBeInvertible l N
-  unfolding canBeInvertible
-  canBeInvertible-same = ap (λ a. ltb a 16) shiftOf-same
-
-pub algorithm1-cong : (l : ℕ) → 0 < l → (a b : ℕ → ℕ) → ((k : ℕ) → k < l → a k ≡ b k) → algorithm1 l a ≡ algorithm1 l b
-unfolding polynomial coefficient
-algorithm1-cong l some a b e = sum-cong (matrices l) l (λ k h. rw (e k h, e 0 some))
-
--- ---- a corner in a product, and a U with nothing but its first matrix
+-- ---- a corner in a product
 
 mul-unit : (a b : ℕ) → mul a (mul 1 b) ≡ mul a b
 mul-unit a b = ap (mul a) (sym (Field.mul-mod-right 1 b) ∙ Field.one-mul (b % 16) (omega arith)) ∙ Field.mul-mod-right a b
@@ -144,14 +105,3 @@ corner-symmetric x = entries (λ r c. let e : c + r ≡ r + c = omega arith in r
 pub corner-pick : (b : Bool) (x : ℕ) → corner (pick b x 0) ≡ pick b (corner x) zeroM
 corner-pick true x = refl
 corner-pick false x = corner-zero
-
-module _ {M : Type 0} {𝟘 : M} {_⊕_ _⊗_ : M → M → M} {tr : M → M} (R : Ring 𝟘 _⊕_ _⊗_ tr) where
-  infixl 60 _⊕_
-  infixr 70 _⊗_
-  pub value-first : (terms n : ℕ) → 0 < n → (L q : ℕ → M) (P : ℕ → ℕ → ℕ → M) (p B U : ℕ → M) → ((j : ℕ) → j ≢ 0 → U j ≡ 𝟘)
-      → value 𝟘 _⊕_ _⊗_ tr terms n L q P p B U ≡ sum 𝟘 _⊕_ terms (λ α. L α ⊗ tr (U 0) ⊗ q α ⊗ P α 0 0 ⊗ p α ⊗ U 0 ⊗ B α)
-  unfolding value
-  value-first terms n some L q P p B U e =
-      sum-cong R terms (λ α h.
-      sum-one R n 0 _ some (λ j hj d. sum-zeros R n (λ k hk. simp (e j d, tr-zero R, zero-mul R, mul-zero R)))
-      ∙ sum-one R n 0 _ some (λ k hk d. simp (e k d, zero-mul R, mul-zero R)))

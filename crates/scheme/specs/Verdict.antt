@@ -45,7 +45,7 @@ module _ (set : Set) where
 -- ---- what `meets` says
 
 module _ (set : Set) (map : ℕ → Matrix) (target : List ℕ) where
-  pub meets-entry : meets set map target ≡ true → (i r c : ℕ) → i < set .o → r < set .l → c < set .l → map i r c ≡ targetOf set target i r c
+  meets-entry : meets set map target ≡ true → (i r c : ℕ) → i < set .o → r < set .l → c < set .l → map i r c ≡ targetOf set target i r c
   unfolding meets
   meets-entry e i r c hi hr hc =
       eqb-true _ _
@@ -57,7 +57,7 @@ module _ (set : Set) (map : ℕ → Matrix) (target : List ℕ) where
   unfolding meets
   entries-meet e = every-true (set .o) _ (λ i hi. every-true (set .l) _ (λ r hr. every-true (set .l) _ (λ c hc. eq-eqb _ _ (e i r c hi hr hc))))
 
-  pub meets-exactly : (meets set map target ≡ true) ↔ ((i r c : ℕ) → i < set .o → r < set .l → c < set .l → map i r c ≡ targetOf set target i r c)
+  meets-exactly : (meets set map target ≡ true) ↔ ((i r c : ℕ) → i < set .o → r < set .l → c < set .l → map i r c ≡ targetOf set target i r c)
   meets-exactly = (meets-entry, entries-meet)
 
 -- `meets` reads the map's entries inside l only
@@ -78,7 +78,7 @@ accepted-exactly set public abq key signature target = meets-exactly set (public
 
 module _ (set : Set) (public abq private signature target : List ℕ) where
   -- with the generated key, the verdict is that of the central map at the private change
-  pub accepted-central : accepted set public abq (keyOf set public private) signature target
+  accepted-central : accepted set public abq (keyOf set public private) signature target
       ≡ meets set (centralMap set public abq private (privateChange set private (signatureOf set signature))) target
   unfolding accepted
   accepted-central = meets-same set _ _ target (λ i h. key-composition set public abq private (signatureOf set signature) i)
@@ -105,7 +105,7 @@ unfolding blockOf
 zero-elements l n s z = by-entry l n (λ e. element s e ≡ 0) (λ b r c hb hr hc. z b hb .at r c hr hc)
 
 -- the public map at zero is zero
-pub publicMap-zero : (set : Set) (public abq : List ℕ) (P22s : ℕ → ℕ → ℕ → Matrix) (i : ℕ) → publicMapWith set public abq P22s (λ j. zeroM) i ≡ zeroM
+publicMap-zero : (set : Set) (public abq : List ℕ) (P22s : ℕ → ℕ → ℕ → Matrix) (i : ℕ) → publicMapWith set public abq P22s (λ j. zeroM) i ≡ zeroM
 unfolding publicMapWith equation
 publicMap-zero set public abq P22s i = value-zero (matrices (set .l)) (terms set) (variables set) _ _ _ _ _ (λ j h. refl)
 

@@ -1,7 +1,7 @@
 -- What an allowed set keeps small: the page's limits as facts, and every product that the code forms, so that no product wraps.
 -- Every bound is said by the limits' names, so a raised limit moves no line here. Rests on Sets and the kit's arithmetic.
 use mathlib.Core.Path.{_≡_, refl}
-use mathlib.Core.Bool.{Bool, true, false}
+use mathlib.Core.Bool.{true, false}
 use Prim.Native.Nat.{ℕ, _+_, _*_, _≤_}
 use native.Mathlib.Nat.{mul-le-mul, mul-le-mul-left}
 use native.Mathlib.Omega.{arith}
@@ -100,7 +100,7 @@ pub record Products (s : Set) : Type 0 where
   pub ollll : s .o * (s .l * s .l) * (s .l * s .l) ≤ mostRow * (mostL * mostL)
   pub oollll : s .o * (s .l * s .l) * (s .o * (s .l * s .l)) ≤ mostRow * mostRow
 
-pub products : {s : Set} → Limits s → Products s
+products : {s : Set} → Limits s → Products s
 products {s} h =
     let ll = mul-le-mul (h .l-most) (h .l-most) in
     let vv = mul-le-mul (h .v-most) (h .v-most) in
@@ -149,7 +149,7 @@ pub record Counts (s : Set) : Type 0 where
   pub key : keyCount s ≡ s .o * s .o * s .o * (s .l * s .l)
   pub signature : signatureCount s ≡ variables s * (s .l * s .l)
 
-pub counts : (s : Set) → Counts s
+counts : (s : Set) → Counts s
 unfolding terms unknowns publicCount abqCount privateCount vinegarCount targetCount keyCount signatureCount
 counts s =
     record {
@@ -177,7 +177,7 @@ pub record Sizes (s : Set) : Type 0 where
   pub signature : signatureCount s ≤ mostV * (mostL * mostL) + mostRow
   pub work : workBytes s ≤ mostRow * (mostRow + 1) + 3 * (mostV * mostRow)
 
-pub sizes : {s : Set} → Limits s → Products s → Sizes s
+sizes : {s : Set} → Limits s → Products s → Sizes s
 unfolding workBytes unknowns
 sizes {s} h p =
     let c = counts s in
@@ -201,7 +201,7 @@ pub record Bounds (s : Set) : Type 0 where
   pub counts : Counts s
   pub sizes : Sizes s
 
-pub bounds-from : {s : Set} → Limits s → Bounds s
+bounds-from : {s : Set} → Limits s → Bounds s
 bounds-from {s} h = let p = products h in record { limits = h; products = p; counts = counts s; sizes = sizes h p }
 
 pub bounds : (s : Set) → allowedSet s ≡ true → Bounds s

@@ -35,10 +35,6 @@ allowedSet s =
 abbrev pub variables : Set → ℕ
 variables s = s .v + s .o
 
--- m = o
-abbrev pub equations : Set → ℕ
-equations s = s .o
-
 -- alpha is from 0 to l² + l - 1
 unfoldable pub terms : Set → ℕ
 terms s = s .l * s .l + s .l

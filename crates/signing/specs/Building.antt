@@ -2,14 +2,12 @@
 -- Rests on Solving, and on system's law that a built system is the scheme's.
 use mathlib.Core.Path.{_≡_, sym, subst}
 use mathlib.Core.List.{List}
-use Prim.Native.Nat.{ℕ, _+_, _*_, _/_, _%_, _<_, _≤_}
+use Prim.Native.Nat.{ℕ, _+_, _*_, _<_, _≤_}
 use native.Mathlib.Nat.{mul-le-mul-right}
 use native.Mathlib.Decide.{decLt}
 use native.Mathlib.Omega.{arith}
-use lib.ListN.{length, getD}
-use Rattle.field.specs.Field.{add}
+use lib.ListN.{length}
 use Rattle.field.specs.Laws.{add-lt}
-use Rattle.packing.specs.Packing.{element}
 use Rattle.packing.specs.Laws.{element-lt}
 use Rattle.sets.specs.declared.Set.{Set}
 use Rattle.sets.specs.Sets.{unknowns, workBytes}

@@ -8,7 +8,7 @@ use native.Mathlib.Decide.{decLt}
 use native.Mathlib.Omega.{arith}
 use lib.Arith.{digits-lt}
 use lib.ListN.{length, getD}
-use Rattle.ground.specs.Fill.{tab}
+use Rattle.ground.specs.Fill.{tab, tab-cong}
 use Rattle.ground.specs.Place.{row-fits}
 use Rattle.ground.specs.Segment.{Segment}
 use Rattle.field.specs.Field.{mul}
@@ -27,7 +27,7 @@ use Rattle.tables.specs.Table.{Holds}
 use Rattle.tables.specs.Unpacked.{Unpacked}
 use Rattle.linear.specs.System.{at}
 use Rattle.signing.specs.Signs.{signatureWith}
-use Rattle.signing.specs.Signature.{tab-cong, solution-lt, signature-cong}
+use Rattle.signing.specs.Signature.{solution-lt, signature-cong}
 use Rattle.signing.specs.Writing.{oilRow, oilOf, SolutionList, solution-listed, output-is}
 
 -- row y of U, and the row of the table of T12 that it is made of

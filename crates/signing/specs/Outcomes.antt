@@ -7,17 +7,17 @@ use Prim.Native.Nat.{ℕ, _<_}
 use native.Mathlib.Omega.{arith}
 use lib.ListN.{length}
 use Rattle.ground.specs.Answers.{lowest, unless, answerOf, numberOf}
+use Rattle.ground.specs.AnswerLaws.{number-of-answer, answer-done}
 use Rattle.ground.specs.declared.Answer.{Answer}
 use Rattle.ground.specs.declared.Answer.the-variants as Answers
 use Rattle.sets.specs.declared.Set.{Set}
 use Rattle.scheme.specs.Maps.{allInvertible}
 use Rattle.scheme.specs.Oil.{oilFrom}
 use Rattle.rows.specs.Zero.{zeros}
-use Rattle.signing.specs.declared.Signing.{Signing}
 use Rattle.signing.specs.declared.Signing.the-variants.{Done, Redo, Refused}
 use Rattle.signing.specs.Signs.{Again, Signs, signatureWith}
 use Rattle.signing.specs.Solving.{FoundOil, emitted}
-use Rattle.signing.specs.Refusals.{refusal, lengthRefusal, then-invertible, length-stands, answer-done, answer-number}
+use Rattle.signing.specs.Refusals.{refusal, lengthRefusal, then-invertible, length-stands}
 
 done-redo : (A : Type 0) → Done ≡ Redo → A
 done-redo A e = let z : _≡_ {A = ℕ} 0 1 = cc in absurd (omega arith)
@@ -32,7 +32,7 @@ refused-done : (A : Type 0) (n : ℕ) → Refused n ≡ Done → A
 refused-done A n e = let z : _≡_ {A = ℕ} 0 1 = cc in absurd (omega arith)
 
 module _ (set : Set) (public abq private vinegar target salt work output : List ℕ) where
-  pub signs-refused : {n : ℕ} → n ≡ refusal set public abq private vinegar target salt work output
+  signs-refused : {n : ℕ} → n ≡ refusal set public abq private vinegar target salt work output
       → (refusal set public abq private vinegar target salt work output ≡ 0 → ⊥)
       → Signs set public abq private vinegar target salt work output (Refused n) work output
   signs-refused {n} e some = record {
@@ -56,7 +56,7 @@ module _ (set : Set) (public abq private vinegar target salt work output : List 
       → Signs set public abq private vinegar target salt work output (Refused m) work output
   refused-invertible {n} {m} {k} {a} e z a-is refused m-is =
       let whole = then-invertible set public abq private vinegar target salt work output (sym e ∙ z) in
-      signs-refused (m-is ∙ ap numberOf a-is ∙ answer-number (lowest (unless 21 (allInvertible set abq) ∷ [])) ∙ sym whole)
+      signs-refused (m-is ∙ ap numberOf a-is ∙ number-of-answer (lowest (unless 21 (allInvertible set abq) ∷ [])) ∙ sym whole)
       (λ q. not-refused (a-is ∙ ap answerOf (sym whole ∙ q)))
     where
       not-refused : a ≡ Answers.Done → ⊥
@@ -67,7 +67,7 @@ module _ (set : Set) (public abq private vinegar target salt work output : List 
       → a ≡ answerOf (lowest (unless 21 (allInvertible set abq) ∷ [])) → a ≡ Answers.Done
       → refusal set public abq private vinegar target salt work output ≡ 0
   nothing-refused e z a-is done =
-      then-invertible set public abq private vinegar target salt work output (sym e ∙ z) ∙ answer-done _ (sym a-is ∙ done)
+      then-invertible set public abq private vinegar target salt work output (sym e ∙ z) ∙ answer-done _ a-is done
 
   module _ (fits : refusal set public abq private vinegar target salt work output ≡ 0) where
     pub signs-redo : {work′ : List ℕ} → Again set public abq private vinegar target → work′ ≡ zeros (length work)

@@ -6,33 +6,23 @@ use mathlib.Core.List.{List, _++_}
 use Prim.Native.Nat.{ℕ, _+_, _*_, _/_, _<_}
 use native.Mathlib.Omega.{arith}
 use lib.Arith.{digits-lt}
-use lib.ListN.{length, getD, take}
+use lib.ListN.{length, getD}
 use lib.Seq.{take-append-seam}
-use Rattle.ground.specs.Fill.{tab, length-tab, getD-tab, tab-ext}
+use Rattle.ground.specs.Fill.{tab, length-tab, getD-tab, tab-cong}
 use Rattle.packing.specs.Packing.{element, packed, packedBytes, inField}
-use Rattle.packing.specs.Laws.{element-take, element-packed, length-packed, lt-in-field}
+use Rattle.packing.specs.Laws.{element-take, element-packed, length-packed, in-field-tab}
 use Rattle.sets.specs.declared.Set.{Set}
 use Rattle.sets.specs.Sets.{variables, signatureCount}
 use Rattle.matrix.specs.Matrix.{Matrix}
 use Rattle.matrix.specs.Same.{Same, same-equal, same-trans}
 use Rattle.scheme.specs.Streams.{blockOf, vinegarOf, signatureOf}
-use Rattle.scheme.specs.Maps.{privateChange}
 use Rattle.scheme.specs.Parts.{vinegar-or-oil}
 use Rattle.scheme.specs.Entries.{by-entry, blockOf-lt, privateChange-lt, privateChange-same}
 use Rattle.scheme.specs.Oil.{entryAt, entry-number, joined, joined-vinegar, joined-oil, Oil}
 use Rattle.signing.specs.Signs.{solutionOf, signatureWith}
 
--- the same rule gives the same list
-pub tab-cong : (n : ℕ) (f g : ℕ → ℕ) → ((k : ℕ) → k < n → f k ≡ g k) → tab n f ≡ tab n g
-tab-cong n f g e = tab-ext (tab n f) n g (length-tab n f) (λ k h. getD-tab n f k h ∙ e k h)
-
--- a rule that gives elements
-pub tab-in-field : (n : ℕ) (f : ℕ → ℕ) → ((k : ℕ) → k < n → f k < 16) → inField (tab n f) ≡ true
-tab-in-field n f small =
-    lt-in-field (tab n f) (λ k h. let l : k < n = omega (arith, length-tab n f) in rw (getD-tab n f k l) (small k l))
-
 -- what stands behind packed elements does not change them
-pub element-before : (es rest : List ℕ) → inField es ≡ true → (e : ℕ) → e < length es → element (packed es ++ rest) e ≡ getD es e 0
+element-before : (es rest : List ℕ) → inField es ≡ true → (e : ℕ) → e < length es → element (packed es ++ rest) e ≡ getD es e 0
 unfolding packedBytes
 element-before es rest field e h =
     let inside : e / 2 < length (packed es) = omega (arith, length-packed es) in
@@ -66,7 +56,7 @@ module _ (set : Set) (private vinegar : List ℕ) where
       (privateChange-lt set private (joined set (vinegarOf set vinegar) oil) j r c (joined-lt a j hj r c hr hc)))
 
   -- U reads the oil inside l only
-  pub solution-cong : {oil oil′ : ℕ → Matrix} → ((k : ℕ) → k < set .o → Same (set .l) (oil k) (oil′ k)) → (e : ℕ) → e < signatureCount set
+  solution-cong : {oil oil′ : ℕ → Matrix} → ((k : ℕ) → k < set .o → Same (set .l) (oil k) (oil′ k)) → (e : ℕ) → e < signatureCount set
       → entryAt (set .l) (solutionOf set private vinegar oil) e ≡ entryAt (set .l) (solutionOf set private vinegar oil′) e
   unfolding signatureCount
   solution-cong {oil} {oil′} s =
@@ -94,7 +84,7 @@ module _ (set : Set) (private vinegar : List ℕ) where
         let e = j * (set .l * set .l) + (r * set .l + c) in
         let inside : e < n = digits-lt hj (digits-lt hr hc) in
         let listed : e < length (tab n (entryAt (set .l) U)) = omega (arith, length-tab n (entryAt (set .l) U)) in
-        element-before (tab n (entryAt (set .l) U)) salt (tab-in-field n (entryAt (set .l) U) (solution-lt a)) e listed
+        element-before (tab n (entryAt (set .l) U)) salt (in-field-tab n (entryAt (set .l) U) (solution-lt a)) e listed
         ∙ getD-tab n (entryAt (set .l) U) e inside
         ∙ entry-number (set .l) j hr hc U;
   }

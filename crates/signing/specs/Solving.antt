@@ -45,7 +45,7 @@ module _ {set : Set} {public abq private vinegar target : List ℕ} {g : List �
   unfolding apply rowTimes unknowns
   built-row s y h = sum-cong field-ring (set .o * (set .l * set .l)) (λ e l. ap (λ x. mul x (s e)) (b .coefficients y e h l))
 
-  pub found-oil : {s : ℕ → ℕ} → Solution g (unknowns set) s → FoundOil set public abq private vinegar target s
+  found-oil : {s : ℕ → ℕ} → Solution g (unknowns set) s → FoundOil set public abq private vinegar target s
   unfolding unknowns
   found-oil {s} f = record {
     small = f .small;
@@ -53,7 +53,7 @@ module _ {set : Set} {public abq private vinegar target : List ℕ} {g : List �
     only-zero = onlyZero-rows set public abq private (vinegarOf set vinegar) p .1 (λ z l t. f .trivial z l (λ y h. built-row z y h ∙ t y h));
   }
 
-  pub found-again : Kernel g (unknowns set) → Again set public abq private vinegar target
+  found-again : Kernel g (unknowns set) → Again set public abq private vinegar target
   unfolding unknowns
   found-again k =
       redo-rows set public abq private (vinegarOf set vinegar) p (k .y) (k .small) (λ y h. sym (built-row (k .y) y h) ∙ k .sent y h)

@@ -6,7 +6,6 @@ use mathlib.Core.Logic.{_⊎_, inl, inr, _↔_}
 use mathlib.Core.List.{List}
 use Prim.Native.Nat.{ℕ}
 use native.Mathlib.Decide.{ℕ-discrete}
-use native.Mathlib.Omega.{arith}
 use Rattle.ground.specs.Answers.{lowest}
 use Rattle.sets.specs.declared.Set.{Set}
 use Rattle.scheme.specs.Streams.{vinegarOf}
@@ -14,7 +13,7 @@ use Rattle.scheme.specs.Maps.{centralMap, keyOf}
 use Rattle.scheme.specs.Oil.{joined, OnlyZero, redo-exclusive, unique-oil}
 use Rattle.scheme.specs.Verdict.{accepted, accepted-change, entries-meet}
 use Rattle.signing.specs.declared.Signing.{Signing}
-use Rattle.signing.specs.declared.Signing.the-variants.{Done, Redo, Refused}
+use Rattle.signing.specs.declared.Signing.the-variants.{Done, Redo}
 use Rattle.ground.specs.Outcome.{unique-equation}
 use Rattle.signing.specs.Signs.{numberOf, signRefusals, Again, Emitted, Signs}
 use Rattle.signing.specs.Signature.{signature-cong}
@@ -22,17 +21,14 @@ use Rattle.signing.specs.Signature.{signature-cong}
 pub unique-number : (answer : Signing) {n n′ : ℕ} → n ≡ numberOf answer → n′ ≡ numberOf answer → n ≡ n′
 unique-number answer = unique-equation
 
-done-not-redo : (r : Signing) → r ≡ Done → r ≡ Redo → ⊥
-done-not-redo r p q = let z : _≡_ {A = ℕ} 0 1 = cc in omega arith
-
 module _ {set : Set} {public abq private vinegar target salt : List ℕ} where
   -- two signatures that were emitted at the same inputs are the same bytes
-  pub unique-emitted : {s t : List ℕ} → Emitted set public abq private vinegar target salt s → Emitted set public abq private vinegar target salt t → s ≡ t
+  unique-emitted : {s t : List ℕ} → Emitted set public abq private vinegar target salt s → Emitted set public abq private vinegar target salt t → s ≡ t
   unique-emitted a b =
       a .bytes ∙ signature-cong set private vinegar salt (unique-oil (a .only-zero) (a .choice) (b .choice) (a .solves) (b .solves)) ∙ sym (b .bytes)
 
   -- what is emitted is accepted under the key that key generation gives
-  pub emitted-accepted : {s : List ℕ} → Emitted set public abq private vinegar target salt s → accepted set public abq (keyOf set public private) s target ≡ true
+  emitted-accepted : {s : List ℕ} → Emitted set public abq private vinegar target salt s → accepted set public abq (keyOf set public private) s target ≡ true
   emitted-accepted {s} a =
       accepted-change set public abq private s target (joined set (vinegarOf set vinegar) (a .oil)) (a .holds)
       ∙ entries-meet set (centralMap set public abq private (joined set (vinegarOf set vinegar) (a .oil))) target (a .solves .equal)

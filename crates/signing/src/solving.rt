@@ -5,7 +5,7 @@ ghost use lib.ListN.{length};
 ghost use Rattle.sets.specs.Bounds.{Bounds};
 ghost use Rattle.sets.specs.Sets.{publicBytes, abqBytes, privateBytes, vinegarBytes, targetBytes, workBytes};
 ghost use Rattle.scheme.specs.Maps.{allInvertible};
-ghost use Prim.Native.Nat.{ℕ, _+_, _*_, _≤_};
+ghost use Prim.Native.Nat.{_*_, _≤_};
 ghost use Rattle.scheme.specs.Regroup.{powerTimes};
 ghost use Rattle.scheme.specs.Streams.{vinegarOf};
 ghost use Rattle.tables.specs.RingRows.{Powers};

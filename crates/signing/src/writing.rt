@@ -7,7 +7,7 @@ ghost use Rattle.ground.specs.Fill.{tab};
 ghost use Rattle.ground.specs.Segment.{Segment};
 ghost use Rattle.packing.specs.Packing.{packed, packedBytes};
 ghost use Rattle.sets.specs.Bounds.{Bounds};
-ghost use Rattle.sets.specs.Sets.{privateBytes, vinegarBytes, unknowns, signatureCount, signatureBytes};
+ghost use Rattle.sets.specs.Sets.{privateBytes, vinegarBytes, unknowns, signatureCount};
 ghost use Rattle.scheme.specs.Oil.{oilFrom};
 ghost use Rattle.rows.specs.PlusRows.{PlusRows};
 ghost use Rattle.linear.specs.System.{at};
@@ -101,7 +101,8 @@ pub fn emit(output: &mut [u8], set: Set, private: &[u8], vinegar: &[u8], salt: &
     requires { ⌜ (length (now private) ≡ privateBytes set) × (length (now vinegar) ≡ vinegarBytes set) ⌝ }
     requires { ⌜ (length (now output) ≡ packedBytes (signatureCount set) + length (now salt)) × (unknowns set * (unknowns set + 1) ≤ length (now work)) ⌝ }
     requires { ⌜ ((e : ℕ) → e < unknowns set → at (now work) (unknowns set) e (unknowns set) < 16) ⌝ }
-    ensures { λ _. ⌜ now (output .exit) ≡ signatureWith set (now (private .entry)) (now (vinegar .entry)) (now (salt .entry)) (oilFrom (set .l) (λ e. at (now (work .entry)) (unknowns set) e (unknowns set))) ⌝ }
+    ensures { λ _. ⌜ now (output .exit) ≡ signatureWith set (now (private .entry)) (now (vinegar .entry)) (now (salt .entry))
+        (oilFrom (set .l) (λ e. at (now (work .entry)) (unknowns set) e (unknowns set))) ⌝ }
 {
     let n = sets::unknowns(set);
     let mut oil = [0u8; MOST_UNKNOWNS];

@@ -67,7 +67,7 @@ module _ (refusal : ℕ) (ok : Bool) where
 
 -- ---- what signing emitted
 
-pub length-signature : (set : Set) (private vinegar salt : List ℕ) (oil : ℕ → Matrix) → length salt ≡ saltBytes
+length-signature : (set : Set) (private vinegar salt : List ℕ) (oil : ℕ → Matrix) → length salt ≡ saltBytes
     → length (signatureWith set private vinegar salt oil) ≡ signatureBytes set
 unfolding signatureWith signatureBytes packedBytes
 length-signature set private vinegar salt oil e = simp (length-append, length-packed, length-tab, e)
@@ -75,7 +75,7 @@ length-signature set private vinegar salt oil e = simp (length-append, length-pa
 module _ (set : Set) (public abq private vinegar target salt work output : List ℕ) {work′ signature : List ℕ}
     (s : Signs set public abq private vinegar target salt work output Signings.Done work′ signature) where
   -- done is answered only where nothing is refused
-  pub done-fits : lowest (signRefusals set public abq private vinegar target salt work output) ≡ 0
+  done-fits : lowest (signRefusals set public abq private vinegar target salt work output) ≡ 0
   done-fits =
       elim (ℕ-discrete (lowest (signRefusals set public abq private vinegar target salt work output)) 0) [
         | yes z ↦ z
@@ -83,7 +83,7 @@ module _ (set : Set) (public abq private vinegar target salt work output : List 
       ]
 
   -- the verdict refuses neither it nor the generated key
-  pub emitted-fits : lowest (verdictRefusals set public abq target (keyOf set public private) signature) ≡ 0
+  emitted-fits : lowest (verdictRefusals set public abq target (keyOf set public private) signature) ≡ 0
   unfolding verdictRefusals
   emitted-fits =
       let f = fits set public abq private vinegar target salt work output done-fits in

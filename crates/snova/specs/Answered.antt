@@ -1,5 +1,5 @@
 -- What the first sentence says of one call, in page 01's numbers, and that each kind of promise gives it: done or refused, the verdict, signing.
--- Rests on Refusals and on the contracts' records of the crates below.
+-- Rests on ground's Applies and on the contracts' records of the crates below.
 use mathlib.Core.Path.{_≡_, refl, sym, ap, ap₂, subst, _∙_}
 use mathlib.Core.Bool.{Bool, true, false}
 use mathlib.Core.Logic.{_↔_, _⊎_, inl, inr, ⊎-elim}
@@ -16,6 +16,7 @@ use Rattle.ground.specs.declared.Answer.{Answer}
 use Rattle.sets.specs.declared.Set.{Set}
 use Rattle.ground.specs.Lowest.{numbers, lowest-listed}
 use Rattle.ground.specs.AnswerLaws.{number-of-answer}
+use Rattle.ground.specs.Applies.{Lowest, NoneApplies, rising, lowest-exactly, none-exactly, lowest-above}
 use Rattle.verdict.specs.declared.Verdict.{Verdict}
 use Rattle.verdict.specs.Promise.{verdictOf}
 use Rattle.verdict.specs.Promise.{numberOf as verdictNumber}
@@ -24,7 +25,6 @@ use Rattle.signing.specs.declared.Signing.{Signing}
 use Rattle.signing.specs.declared.Signing.the-variants.{Done, Redo}
 use Rattle.signing.specs.Signs.{signRefusals, Signs}
 use Rattle.signing.specs.Signs.{numberOf as signNumber}
-use Rattle.snova.specs.Refusals.{Lowest, NoneApplies, rising, lowest-exactly, none-exactly, lowest-above}
 
 -- A call of an operation with these refusals was answered by n; before and after are the buffers that it may write.
 pub record Answered (page : List ℕ) (refusals : List Rule) (n : ℕ) (before after : List (List ℕ)) : Type 0 where
@@ -40,7 +40,7 @@ pub record Answered (page : List ℕ) (refusals : List Rule) (n : ℕ) (before a
 -- the rules' numbers are 10 and above; the outcomes are what the operation answers where nothing is refused
 module _ (outcomes : List ℕ) (refusals : List Rule) (up : T (rising 9 refusals)) {n : ℕ} {before after : List (List ℕ)} where
   -- the answer is the lowest refusal; where there is none, an outcome
-  pub answered : ((lowest refusals ≡ 0 → ⊥) → n ≡ lowest refusals) → (lowest refusals ≡ 0 → List·Memᴰ n outcomes × (n < 10))
+  answered : ((lowest refusals ≡ 0 → ⊥) → n ≡ lowest refusals) → (lowest refusals ≡ 0 → List·Memᴰ n outcomes × (n < 10))
       → ((lowest refusals ≡ 0 → ⊥) → after ≡ before) → Answered (outcomes ++ numbers refusals) refusals n before after
   answered is outcome kept = record {
     listed = elim (ℕ-discrete (lowest refusals) 0) [ yes z ↦ Memᴰ·append-left (numbers refusals) (outcome z .0) | no z ↦ Memᴰ·append-right outcomes (number z) ];

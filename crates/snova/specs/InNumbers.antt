@@ -5,13 +5,13 @@ use mathlib.Core.Logic.{_↔_}
 use mathlib.Core.List.{List}
 use Prim.Native.Nat.{ℕ}
 use Rattle.ground.specs.Answers.{Rule}
+use Rattle.ground.specs.Applies.{NoneApplies}
 use Rattle.sets.specs.declared.Set.{Set}
 use Rattle.keys.specs.Generates.{Generates}
 use Rattle.scheme.specs.Streams.{vinegarOf}
 use Rattle.scheme.specs.Oil.{Redo}
 use Rattle.verdict.specs.Promise.{numberOf as verdictNumber}
 use Rattle.signing.specs.Signs.{signRefusals, Signs}
-use Rattle.snova.specs.Refusals.{NoneApplies}
 use Rattle.snova.specs.Answered.{Answered, sign-done}
 use Rattle.snova.specs.Accepted.{answer-zero}
 use Rattle.snova.specs.Sentences.{sentence-3}

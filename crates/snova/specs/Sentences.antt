@@ -8,6 +8,7 @@ use lib.ListN.{length}
 use Rattle.ground.specs.Answers.{lowest, numberOf}
 use Rattle.ground.specs.declared.Answer.{Answer}
 use Rattle.ground.specs.declared.Answer.the-variants as Answers
+use Rattle.ground.specs.Applies.{NoneApplies, none-exactly}
 use Rattle.packing.specs.Packing.{packRules, unpackRules, Packs, Unpacks}
 use Rattle.packing.specs.RoundTrip.{pack-then-unpack}
 use Rattle.sets.specs.declared.Set.{Set}
@@ -32,7 +33,6 @@ use Rattle.signing.specs.Signs.{numberOf as signNumber}
 use Rattle.signing.specs.Unique.{redo-exactly}
 use Rattle.salt.specs.Salt.{saltRefusal}
 use Rattle.snova.specs.Calls.{Verifies, SaltStatus}
-use Rattle.snova.specs.Refusals.{NoneApplies, none-exactly}
 use Rattle.snova.specs.Answered.{Answered, writes-answered, status-answered, verdict-answered, sign-answered, sign-wiped, sign-kept, sign-redo}
 use Rattle.snova.specs.Accepted.{answer-zero, written-zero, verdict-zero, emitted-verdict}
 

@@ -93,7 +93,7 @@ module _ (l n : ℕ) (M : ℕ → ℕ → Matrix) (U : ℕ → Matrix) (w : List
   accumulating-next p q = record { so-far = rows-cong sums-more (rows-then (p .so-far) q) }
 
 -- all of them, on rows that were zero: the rows hold the power sums
-pub accumulating-end : {l n : ℕ} {M : ℕ → ℕ → Matrix} {U : ℕ → Matrix} {at : ℕ} {d t : List ℕ} (i : ℕ) → Accumulating l n M U at d n t → at ≡ i * (l * l) * (l * l)
+accumulating-end : {l n : ℕ} {M : ℕ → ℕ → Matrix} {U : ℕ → Matrix} {at : ℕ} {d t : List ℕ} (i : ℕ) → Accumulating l n M U at d n t → at ≡ i * (l * l) * (l * l)
     → ((k : ℕ) → k < l * l * (l * l) → getD d (at + k) 0 ≡ 0) → (x y : ℕ) → x < l → y < l → Same l (tile l (l * l) t (i * l + x) y) (powerSums l n M U x y)
 unfolding sumsRow sumTerm
 accumulating-end {l} {n} {M} {U} {at} {d} {t} i p at-is zero x y hx hy = record {

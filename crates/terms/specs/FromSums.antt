@@ -1,14 +1,13 @@
 -- Where the table holds a map's power sums, the equation from the table is the map's: the public map's, and the vinegar part's.
 -- Rests on scheme's maps by powers.
-use mathlib.Core.Path.{_≡_, sym}
+use mathlib.Core.Path.{sym}
 use mathlib.Core.List.{List}
 use Prim.Native.Nat.{ℕ, _+_, _*_, _<_}
 use Rattle.rows.specs.Tile.{tile}
 use Rattle.sets.specs.declared.Set.{Set}
 use Rattle.sets.specs.Sets.{terms, variables}
 use Rattle.matrix.specs.Matrix.{Matrix, mulM}
-use Rattle.matrix.specs.Same.{Same, same-refl, same-trans, same-equal, same-sum, same-mul, same-scale, mulM-lt, sumM-lt}
-use Rattle.matrix.specs.Block.{block, block-same}
+use Rattle.matrix.specs.Same.{Same, same-refl, same-trans, same-equal, same-sum, same-mul, same-scale}
 use Rattle.scheme.specs.Streams.{A, B, P11}
 use Rattle.scheme.specs.Maps.{sumM, matrixIndex, PWith, publicMapWith, vinegarPart}
 use Rattle.scheme.specs.Regroup.{q1Of, q2Of, powerSums, gathered, publicMap-regroup, vinegarPart-regroup}
@@ -20,18 +19,13 @@ use Rattle.terms.specs.Terms.{gatheredFrom, termFrom, equationFrom}
 pub record HoldsSums (l n : ℕ) (M : ℕ → ℕ → ℕ → Matrix) (U : ℕ → Matrix) (count : ℕ) (sums : List ℕ) : Type 0 where
   pub same : (i x y : ℕ) → i < count → x < l → y < l → Same l (tile l (l * l) sums (i * l + x) y) (powerSums l n (M i) U x y)
 
-pub gathered-from : {l n count : ℕ} {M : ℕ → ℕ → ℕ → Matrix} {U : ℕ → Matrix} {sums : List ℕ} → HoldsSums l n M U count sums → (a b : ℕ → ℕ) (index : ℕ) → index < count
+gathered-from : {l n count : ℕ} {M : ℕ → ℕ → ℕ → Matrix} {U : ℕ → Matrix} {sums : List ℕ} → HoldsSums l n M U count sums → (a b : ℕ → ℕ) (index : ℕ) → index < count
     → Same l (gatheredFrom l a b sums index) (gathered l n a b (M index) U)
 unfolding gatheredFrom
 gathered-from {l} h a b index hi = same-sum l (λ x hx. same-sum l (λ y hy. same-scale (a x) (same-scale (b y) (h .same index x y hi hx hy))))
 
--- entries of an equation are elements
-pub equation-lt : (set : Set) (abq sums : List ℕ) (i r c : ℕ) → equationFrom set abq sums i r c < 16
-unfolding termFrom
-equation-lt set abq sums i r c = sumM-lt (terms set) (λ alpha. termFrom set abq sums i alpha) r c (λ alpha h. mulM-lt (set .l) (A set abq i alpha) _ r c)
-
 module _ {set : Set} (bounds : Bounds set) (abq : List ℕ) where
-  pub equation-from-sums : {n : ℕ} {M : ℕ → ℕ → ℕ → Matrix} {U : ℕ → Matrix} {sums : List ℕ} → HoldsSums (set .l) n M U (set .o) sums → (i : ℕ) → i < set .o
+  equation-from-sums : {n : ℕ} {M : ℕ → ℕ → ℕ → Matrix} {U : ℕ → Matrix} {sums : List ℕ} → HoldsSums (set .l) n M U (set .o) sums → (i : ℕ) → i < set .o
       → Same (set .l) (equationFrom set abq sums i)
       (sumM (terms set) (λ alpha. mulM (set .l) (A set abq i alpha) (mulM (set .l)
       (gathered (set .l) n (q1Of set abq i alpha) (q2Of set abq i alpha) (M (matrixIndex set i alpha)) U)
@@ -49,15 +43,7 @@ module _ {set : Set} (bounds : Bounds set) (abq : List ℕ) where
         → (i : ℕ) → i < set .o → Same (set .l) (equationFrom set abq sums i) (publicMapWith set public abq P22s U i)
     public-from-sums P22s {U} h i hi = same-trans (equation-from-sums h i hi) (same-equal (sym (publicMap-regroup set public abq p P22s U i)))
 
-    pub public-block : (P22s : ℕ → ℕ → ℕ → Matrix) {U : ℕ → Matrix} {sums : List ℕ} → HoldsSums (set .l) (variables set) (PWith set public P22s) U (set .o) sums
-        → (i : ℕ) → i < set .o → block (set .l) (equationFrom set abq sums i) ≡ block (set .l) (publicMapWith set public abq P22s U i)
-    public-block P22s h i hi = block-same (public-from-sums P22s h i hi)
-
     -- the vinegar part
     pub vinegar-from-sums : {U : ℕ → Matrix} {sums : List ℕ} → HoldsSums (set .l) (set .v) (P11 set public) U (set .o) sums
         → (i : ℕ) → i < set .o → Same (set .l) (equationFrom set abq sums i) (vinegarPart set public abq U i)
     vinegar-from-sums {U} h i hi = same-trans (equation-from-sums h i hi) (same-equal (sym (vinegarPart-regroup set public abq p U i)))
-
-    pub vinegar-block : {U : ℕ → Matrix} {sums : List ℕ} → HoldsSums (set .l) (set .v) (P11 set public) U (set .o) sums
-        → (i : ℕ) → i < set .o → block (set .l) (equationFrom set abq sums i) ≡ block (set .l) (vinegarPart set public abq U i)
-    vinegar-block h i hi = block-same (vinegar-from-sums h i hi)

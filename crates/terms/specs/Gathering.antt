@@ -88,7 +88,7 @@ folded-row l left q2 r {first} c e =
 -- ---- the two sums
 
 -- the coefficients that an array of them holds
-pub coefficient-in : {l : ℕ} {a : ℕ → ℕ} {q : List ℕ} → Segment (zeros 5) 0 l a q → (x : ℕ) → x < l → getD q x 0 ≡ a x
+coefficient-in : {l : ℕ} {a : ℕ → ℕ} {q : List ℕ} → Segment (zeros 5) 0 l a q → (x : ℕ) → x < l → getD q x 0 ≡ a x
 coefficient-in s x h = rw (zero-plus x) at (s .inside x h)
 
 module _ (l : ℕ) (a b : ℕ → ℕ) (sums : List ℕ) (index : ℕ) (q1 left : List ℕ) where

@@ -10,7 +10,6 @@ use lib.Arith.{digits-lt}
 use Rattle.ground.specs.Pick.{pick}
 use Rattle.ground.specs.Answers.{answerOf, lowest, lowest-met, met-none, met-more}
 use Rattle.packing.specs.Packing.{element}
-use Rattle.packing.specs.Laws.{element-lt}
 use Rattle.matrix.specs.Matrix.{Matrix}
 use Rattle.matrix.specs.Same.{Same}
 use Rattle.matrix.specs.Block.{view, block, block-same, cell, inside, holds}
@@ -22,12 +21,9 @@ use Rattle.matrix.specs.PromiseLaws.{invertible-asked}
 use Rattle.matrix.specs.Promises.{Makes}
 use Rattle.matrix.specs.declared.Made.{Made}
 use Rattle.scheme.specs.Streams.{blockOf}
+use Rattle.scheme.specs.Entries.{blockOf-lt}
 
 -- ---- a block's bytes
-
-pub blockOf-lt : (l : ℕ) (s : List ℕ) (b r c : ℕ) → blockOf l s b r c < 16
-unfolding blockOf
-blockOf-lt l s b r c = element-lt s (b * (l * l) + (r * l + c))
 
 pub element-within : (l number : ℕ) {n r c : ℕ} → (number + 1) * (l * l) ≤ n → r < l → c < l → number * (l * l) + (r * l + c) < n
 element-within l number h hr hc = omega (arith, digits-lt hr hc)
@@ -61,7 +57,7 @@ only-21 {l} {M} {N} allowed small same =
     invertible-asked l M none ∙ ap (λ b. pick b 0 21) (canBeInvertible-same same)
 
 -- the promise, said of the matrix that was read
-pub makes-of : {l : ℕ} {M N : Matrix} {r : Made} → sizeAllowed l ≡ true → ((x y : ℕ) → N x y < 16) → Same l M N
+makes-of : {l : ℕ} {M N : Matrix} {r : Made} → sizeAllowed l ≡ true → ((x y : ℕ) → N x y < 16) → Same l M N
     → Makes (lowest (invertibleRules l M)) (block l (algorithm2 l M)) r → Makes (pick (canBeInvertible l N) 0 21) (block l (algorithm2 l N)) r
 makes-of {l} {M} {N} {r} allowed small same m =
     let number : lowest (invertibleRules l M) ≡ pick (canBeInvertible l N) 0 21 = only-21 allowed small same in

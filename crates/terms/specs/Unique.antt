@@ -1,9 +1,8 @@
 -- No second outcome meets a contract of this crate: the answer and every lent buffer are fixed by what went in.
 -- Rests on ground's `unique-equation`, and on the uniqueness of segments and of rows that gain.
-use mathlib.Core.Path.{_≡_, sym, _∙_}
+use mathlib.Core.Path.{_≡_}
 use mathlib.Core.List.{List, [], _∷_}
 use Prim.Native.Nat.{ℕ, _*_}
-use native.Mathlib.Decide.{ℕ-discrete}
 use Rattle.ground.specs.Pick.{pick}
 use Rattle.ground.specs.Outcome.{unique-equation}
 use Rattle.ground.specs.Segment.{Segment, segment-unique}
@@ -17,6 +16,7 @@ use Rattle.matrix.specs.Block.{block}
 use Rattle.matrix.specs.RingElements.{coefficient}
 use Rattle.matrix.specs.Invertible.{algorithm2, canBeInvertible}
 use Rattle.matrix.specs.Promises.{Makes}
+use Rattle.matrix.specs.Unique.{unique-makes}
 use Rattle.matrix.specs.declared.Made.{Made}
 use Rattle.scheme.specs.Streams.{blockOf, groupOf, aNumber, bNumber, q1Number, q2Number}
 use Rattle.scheme.specs.Maps.{allInvertible, matrixIndex}
@@ -26,12 +26,6 @@ pub unique-read-block : (l : ℕ) (stream : List ℕ) (number : ℕ) {r r′ : L
 unique-read-block l stream number = unique-equation
 
 -- the answer, and the block beside it
-unique-makes : {n : ℕ} {result : List ℕ} {r r′ : Made} → Makes n result r → Makes n result r′ → (r .answer ≡ r′ .answer) × (r .block ≡ r′ .block)
-unique-makes {n} a b = (
-  a .answer ∙ sym (b .answer),
-  elim (ℕ-discrete n 0) [ yes e ↦ a .done e ∙ sym (b .done e) | no e ↦ a .refused e ∙ sym (b .refused e) ],
-)
-
 pub unique-invertible-at : (l : ℕ) (stream : List ℕ) (number : ℕ) {r r′ : Made}
     → Makes (pick (canBeInvertible l (blockOf l stream number)) 0 21) (block l (algorithm2 l (blockOf l stream number))) r
     → Makes (pick (canBeInvertible l (blockOf l stream number)) 0 21) (block l (algorithm2 l (blockOf l stream number))) r′

@@ -30,7 +30,9 @@ store-requires : tie.Need-store-requires
 store-requires c κs = let start = c .before .before .before .before .before .before .before .before .before in here start _ _ refl (start .pre .1 .1 .inside)
 
 store-requires-2 : tie.Need-store-requires-2
-store-requires-2 c κs = let start = c .before .before .before .before .before .before .before .before .before .before .before .before .before in here start _ _ (c .before .before .before .store .kept .0) (omega (arith, start .pre))
+store-requires-2 c κs =
+    let start = c .before .before .before .before .before .before .before .before .before .before .before .before .before in
+    here start _ _ (c .before .before .before .store .kept .0) (omega (arith, start .pre))
 
 clear-column-requires : tie.Need-clear-column-requires
 clear-column-requires c κs = search needs
@@ -46,7 +48,11 @@ returns c =
     step (start .pre .0) (start .pre .1 .0) (start .pre .1 .1)
     (loads .before .before .before .before .before .entry .ensures)
     (loads .before .before .before .before .inverse .ensures)
-    (loads .before .before .load .ensures) (loads .load2 .ensures) (stores .before .before .before .before .store .ensures) (stores .store2 .ensures) (c .before .before .clear-column .ensures)
+    (loads .before .before .load .ensures)
+    (loads .load2 .ensures)
+    (stores .before .before .before .before .store .ensures)
+    (stores .store2 .ensures)
+    (c .before .before .clear-column .ensures)
 
 pub reduce-spec : {M : Type 1} → statement M
 reduce-spec =

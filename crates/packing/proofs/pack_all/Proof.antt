@@ -2,9 +2,8 @@
 -- Rests on ground's Segment and on what `byte_of` ensures.
 use Prim.Native.Nat.{_-_, _≤_}
 use lib.ListN.{length}
-use Rattle.ground.specs.Segment.{Segment, segment-none}
+use Rattle.ground.specs.Segment.{Segment, segment-none, fill-next, fill-end}
 use Rattle.packing.specs.Packing.{packedBytes, byteOf, packed}
-use Rattle.packing.specs.Filling.{fill-next, fill-end}
 use borrow.Author.Needs.{needs}
 use native.Mathlib.Omega.{arith}
 use Rattle.packing.proofs.pack_all.Statement.{statement}

@@ -3,9 +3,8 @@
 use mathlib.Core.Path.{refl}
 use Prim.Native.Nat.{_-_, _≤_}
 use lib.ListN.{length}
-use Rattle.ground.specs.Segment.{Segment, segment-none}
+use Rattle.ground.specs.Segment.{Segment, segment-none, fill-next, fill-end}
 use Rattle.packing.specs.Packing.{packedBytes, element, unpacked}
-use Rattle.packing.specs.Filling.{fill-next, fill-end}
 use borrow.Author.Needs.{needs}
 use native.Mathlib.Omega.{arith}
 use Rattle.packing.proofs.unpack_all.Statement.{statement}

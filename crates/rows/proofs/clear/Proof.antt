@@ -1,7 +1,7 @@
 -- `rows::clear` meets its contract. The loop's invariant: k zeros, and then the rest of s as it was (`fill-more`).
 use mathlib.Core.Path.{_≡_, _∙_}
 use mathlib.Core.List.{_++_}
-use Prim.Native.Nat.{_+_, _-_, _≤_, _<_}
+use Prim.Native.Nat.{_-_, _≤_, _<_}
 use native.Mathlib.Omega.{arith}
 use lib.ListN.{length, drop, length-set}
 use borrow.Author.Fill.{fill-more}

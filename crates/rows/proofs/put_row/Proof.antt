@@ -4,8 +4,7 @@ use Prim.Native.Nat.{_+_, _-_, _≤_}
 use native.Mathlib.Omega.{arith}
 use lib.ListN.{getD}
 use borrow.Author.Needs.{needs}
-use Rattle.packing.specs.Written.{Written, written-none, written-next}
-use Rattle.rows.specs.WrittenEnd.{written-end}
+use Rattle.packing.specs.Written.{Written, written-none, written-next, written-end}
 use Rattle.rows.proofs.put_row.Statement.{statement}
 use Rattle.rows.proofs.put_row.Tie as tie
 

@@ -1,5 +1,5 @@
 -- `salt::salt` meets its contract: the part from 16 bytes before the end, or from the end on, by what the rules of sets say of the length.
-use mathlib.Core.Path.{_≡_, refl, sym, ap, _∙_}
+use mathlib.Core.Path.{refl, sym, ap, _∙_}
 use lib.ListN.{drop}
 use Rattle.salt.specs.Salt.{saltOf, salt-long, part-from, start-done, start-refused}
 use native.Mathlib.Omega.{arith}

@@ -1,9 +1,8 @@
 -- `sets::allowed` meets its contract. The product is formed only where o and l are within their limits, so it does not wrap.
 -- Rests on what `within` ensures, and on the laws of the tests in Bounds.
 -- A callee with no `requires` asks nothing: `(λ _ _. tt)`.
-use mathlib.Core.Path.{_≡_, sym, _∙_}
+use mathlib.Core.Path.{sym, _∙_}
 use mathlib.Core.Logic.{⊎-elim}
-use mathlib.Core.Bool.{true}
 use Prim.Native.Nat.{_*_, _≤_}
 use native.Mathlib.Nat.{mul-le-mul}
 use native.Mathlib.Omega.{arith}

@@ -40,7 +40,8 @@ loop-again : tie.Need-loop-again Inv-loop μ-loop
 unfolding scaleM
 loop-again c =
     let at = c .before .before .before .before in
-    filling-next (at .loop .inv) (c .before .before .before .loop-test .taken) (c .within .ensures) (c .before .mul .ensures ∙ ap (mul (at .before .args .s)) (c .before .before .entry .ensures))
+    filling-next (at .loop .inv) (c .before .before .before .loop-test .taken) (c .within .ensures)
+    (c .before .mul .ensures ∙ ap (mul (at .before .args .s)) (c .before .before .entry .ensures))
 
 returns : tie.Need-returns Inv-loop μ-loop
 returns c = filling-end (c .before .loop .inv) (c .loop-test .left)

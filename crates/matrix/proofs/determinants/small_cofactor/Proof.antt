@@ -28,7 +28,9 @@ entry-requires-3 : tie.Need-entry-requires-3
 entry-requires-3 c κs = omega (arith, c .before .before .before .skip2 .ensures, skip-lt (c .before .before .before .before .before .args .r) 1 2 (omega arith))
 
 entry-requires-4 : tie.Need-entry-requires-4
-entry-requires-4 c κs = omega (arith, c .before .before .before .before .before .skip .ensures, skip-lt (c .before .before .before .before .before .before .args .r) 0 1 (omega arith))
+entry-requires-4 c κs =
+    let at = c .before .before .before .before .before in
+    omega (arith, at .skip .ensures, skip-lt (at .before .args .r) 0 1 (omega arith))
 
 mul-requires-2 : tie.Need-mul-requires-2
 mul-requires-2 c κs = search needs
@@ -39,12 +41,18 @@ add-requires c κs = search needs
 returns : tie.Need-returns
 unfolding minor
 returns c =
-    let m = view (c .before .before .before .before .before .before .before .before .before .args .m) in
-    let first = c .before .before .before .before .before .before .before .before .skip .ensures in
-    let second = c .before .before .before .before .before .before .before .skip2 .ensures in
-    let down = c .before .before .before .before .mul .ensures ∙ ap₂ mul (c .before .before .before .before .before .before .entry .ensures ∙ ap (λ i. m i 1) first) (c .before .before .before .before .before .entry2 .ensures ∙ ap (λ i. m i 2) second) in
-    let up = c .before .mul2 .ensures ∙ ap₂ mul (c .before .before .before .entry3 .ensures ∙ ap (λ i. m i 1) second) (c .before .before .entry4 .ensures ∙ ap (λ i. m i 2) first) in
-    c .add .ensures ∙ ap₂ add down up ∙ sym (det-two (minor m (c .before .before .before .before .before .before .before .before .before .args .r)) refl)
+    let at = c .before .before .before .before in
+    let start = at .before .before .before .before .before in
+    let m = view (start .args .m) in
+    let first = at .before .before .before .before .skip .ensures in
+    let second = at .before .before .before .skip2 .ensures in
+    let first-left = at .before .before .entry .ensures ∙ ap (λ i. m i 1) first in
+    let second-right = at .before .entry2 .ensures ∙ ap (λ i. m i 2) second in
+    let down = at .mul .ensures ∙ ap₂ mul first-left second-right in
+    let second-left = c .before .before .before .entry3 .ensures ∙ ap (λ i. m i 1) second in
+    let first-right = c .before .before .entry4 .ensures ∙ ap (λ i. m i 2) first in
+    let up = c .before .mul2 .ensures ∙ ap₂ mul second-left first-right in
+    c .add .ensures ∙ ap₂ add down up ∙ sym (det-two (minor m (start .args .r)) refl)
 
 pub small-cofactor-spec : {M : Type 1} → statement M
 small-cofactor-spec =

@@ -42,9 +42,11 @@ add-requires c κs = search needs
 
 returns-3 : tie.Need-returns-3
 returns-3 c =
-    let down = c .before .before .before .before .mul2 .ensures ∙ ap₂ mul (c .before .before .before .before .before .before .entry2 .ensures) (c .before .before .before .before .before .entry3 .ensures) in
+    let at = c .before .before .before .before in
+    let down = at .mul2 .ensures ∙ ap₂ mul (at .before .before .entry2 .ensures) (at .before .entry3 .ensures) in
     let up = c .before .mul3 .ensures ∙ ap₂ mul (c .before .before .before .entry4 .ensures) (c .before .before .entry5 .ensures) in
-    c .add .ensures ∙ ap₂ add down up ∙ sym (det-two _ (omega (arith, c .before .before .before .before .before .before .before .before .before .pre, c .before .before .before .before .before .before .before .before .if1 .left, c .before .before .before .before .before .before .before .if2 .left)))
+    let tests = at .before .before .before in
+    c .add .ensures ∙ ap₂ add down up ∙ sym (det-two _ (omega (arith, tests .before .before .pre, tests .before .if1 .left, tests .if2 .left)))
 
 pub small-determinant-spec : {M : Type 1} → statement M
 small-determinant-spec =

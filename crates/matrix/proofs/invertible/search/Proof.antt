@@ -42,7 +42,8 @@ refused-requires c κs = search needs
 returns-2 : tie.Need-returns-2 Inv-loop μ-loop
 returns-2 c =
     let zero = sym (c .before .before .before .before .determinant2 .ensures) ∙ c .before .before .before .if2 .left in
-    let none = searching-none (c .before .before .before .before .before .before .before .before .before .before .pre) (c .before .before .before .before .before .before .loop .inv .1) zero (c .before .if3 .taken) in
+    let at = c .before .before .before .before .before .before in
+    let none = searching-none (at .before .before .before .before .pre) (at .loop .inv .1) zero (c .before .if3 .taken) in
     makes-refused (rw none (omega arith)) (rw none (c .refused .ensures .0)) (c .refused .ensures .1)
 
 next-trial-requires : tie.Need-next-trial-requires Inv-loop μ-loop
@@ -59,12 +60,14 @@ loop-again : tie.Need-loop-again Inv-loop μ-loop
 loop-again c =
     let zero = sym (c .before .before .before .before .determinant2 .ensures) ∙ c .before .before .before .if2 .left in
     let next = c .next-trial .ensures in
-    let searching = c .before .before .before .before .before .before .loop .inv in
-    (next .original ∙ searching .0, next-searching (c .before .before .before .before .before .before .before .before .before .before .pre) searching zero (c .before .if3 .left) next)
+    let at = c .before .before .before .before .before .before in
+    let searching = at .loop .inv in
+    (next .original ∙ searching .0, next-searching (at .before .before .before .before .pre) searching zero (c .before .if3 .left) next)
 
 returns-3 : tie.Need-returns-3 Inv-loop μ-loop
 returns-3 c =
-    let done = searching-found (c .before .before .before .before .before .before .before .pre) (c .before .before .before .loop .inv .1) (λ e. c .if2 .taken (c .before .determinant2 .ensures ∙ e)) in
+    let at = c .before .before .before in
+    let done = searching-found (at .before .before .before .before .pre) (at .loop .inv .1) (λ e. c .if2 .taken (c .before .determinant2 .ensures ∙ e)) in
     makes-done (rw (done .0)) refl (done .1)
 
 pub search-spec : {M : Type 1} → statement M

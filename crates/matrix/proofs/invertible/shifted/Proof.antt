@@ -20,8 +20,9 @@ returns : tie.Need-returns
 unfolding shift
 returns c =
     let in' = c .before .before .before in
-    c .plus .ensures
-    ∙ block-same (same-add same-refl (same-trans (holds (in' .pre) (c .before .scaled .ensures)) (same-scale (in' .args .a) (holds (in' .pre) (c .before .before .s-matrix .ensures)))))
+    let multiple = holds (in' .pre) (c .before .scaled .ensures) in
+    let s = holds (in' .pre) (c .before .before .s-matrix .ensures) in
+    c .plus .ensures ∙ block-same (same-add same-refl (same-trans multiple (same-scale (in' .args .a) s)))
 
 pub shifted-spec : {M : Type 1} → statement M
 shifted-spec = tie.close (tie.spec s-matrix-requires scaled-requires plus-requires returns)

@@ -1,4 +1,5 @@
--- `matrix::entries_allowed` meets its contract. The invariant: the cells so far are elements; at the end every entry is (`cells-pass`), and one that is not shows early (`cells-fail`).
+-- `matrix::entries_allowed` meets its contract. The invariant: the cells so far are elements.
+-- At the end every entry is one (`cells-pass`), and one that is not shows early (`cells-fail`).
 use mathlib.Core.Path.{_≡_, sym}
 use Prim.Native.Nat.{ℕ, _<_, _≤_, _-_}
 use native.Mathlib.Omega.{arith}

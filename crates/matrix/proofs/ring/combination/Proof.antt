@@ -56,7 +56,8 @@ loop-again c =
       omega arith,
       (
         power-step small (at .loop .k) (at .before .before .before .s-matrix .ensures) powers (c .product .ensures),
-        terms-step small _ (at .loop .k) (at .loop .inv .1 .1) powers (c .before .before .before .coefficient .ensures) (c .before .before .scaled .ensures) (c .before .plus .ensures),
+        terms-step small _ (at .loop .k) (at .loop .inv .1 .1) powers (c .before .before .before .coefficient .ensures)
+            (c .before .before .scaled .ensures) (c .before .plus .ensures),
       ),
     )
 

@@ -33,7 +33,9 @@ loop-less : tie.Need-loop-less Inv-loop μ-loop
 loop-less c = search needs
 
 loop-again : tie.Need-loop-again Inv-loop μ-loop
-loop-again c = filling-inside (c .before .before .before .loop .inv) (c .before .before .loop-test .taken) (c .within .ensures) (λ hr hc. c .before .one-entry .ensures ∙ sym (one-inside _ _ _ hr hc))
+loop-again c =
+    filling-inside (c .before .before .before .loop .inv) (c .before .before .loop-test .taken) (c .within .ensures)
+    (λ hr hc. c .before .one-entry .ensures ∙ sym (one-inside _ _ _ hr hc))
 
 returns : tie.Need-returns Inv-loop μ-loop
 returns c = filling-end (c .before .loop .inv) (c .loop-test .left)

@@ -1,5 +1,5 @@
 -- `signing::write_salt` meets its contract. The invariant: the first k bytes of the salt are written.
-use Prim.Native.Nat.{_+_, _-_, _≤_, _<_}
+use Prim.Native.Nat.{_-_, _≤_}
 use mathlib.Core.Path.{refl}
 use lib.ListN.{length, getD}
 use Rattle.ground.specs.Segment.{Segment, segment-none, segment-next}

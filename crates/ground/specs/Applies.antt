@@ -1,5 +1,5 @@
--- "The lowest number that applies is given" (page 01, "Numbers a caller can receive"), said of any list of refusals.
--- Rests on ground's Answers and on sets' laws of the lowest refusal.
+-- "The lowest number that applies is given" (page 01, "Numbers a caller can receive"), said of any list of refusals: when a refusal applies, when it is the
+-- lowest that does, when none does; and that `lowest` picks exactly that, where the numbers rise. Rests on Answers and Tests.
 use mathlib.Core.Path.{_≡_, refl, sym, ap, subst, _∙_}
 use mathlib.Core.Bool.{Bool, true, false}
 use mathlib.Core.Logic.{_↔_, _⊎_, inl, inr, ⊎-elim}
@@ -8,8 +8,9 @@ use Prim.Native.Nat.{ℕ, _<_, _≤_}
 use native.Mathlib.Decide.{ℕ-discrete}
 use native.Mathlib.Omega.{arith}
 use lib.Dec.{T, ltb, ltb→lt}
 use Rattle.ground.specs.Pick.{both}
+use Rattle.ground.specs.Tests.{both-first, both-rest}
 use Rattle.ground.specs.Answers.{Rule, lowest}
 
 -- refusal n applies: there is a rule with this number whose condition is not met
 pub record Applies (n : ℕ) (rules : List Rule) : Type 0 where
@@ -35,18 +36,10 @@ rising a (r ∷ rs) = both (ltb a (r .number)) (rising (r .number) rs)
 -- ---- the first rule, and those after it
 
 first-above : (a : ℕ) (r : Rule) (rs : List Rule) → T (rising a (r ∷ rs)) → a < r .number
-first-above a r rs t = by (ltb a (r .number)) refl t
-  where
-    by : (b : Bool) → ltb a (r .number) ≡ b → T (both b (rising (r .number) rs)) → a < r .number
-    by true e u = ltb→lt a (r .number) (rw e tt)
-    by false e u = absurd u
+first-above a r rs t = ltb→lt a (r .number) (both-first (ltb a (r .number)) (rising (r .number) rs) t)
 
 rest-rising : (a : ℕ) (r : Rule) (rs : List Rule) → T (rising a (r ∷ rs)) → T (rising (r .number) rs)
-rest-rising a r rs t = by (ltb a (r .number)) t
-  where
-    by : (b : Bool) → T (both b (rising (r .number) rs)) → T (rising (r .number) rs)
-    by true u = u
-    by false u = absurd u
+rest-rising a r rs t = both-rest (ltb a (r .number)) (rising (r .number) rs) t
 
 applies-later : {n : ℕ} {r : Rule} {rs : List Rule} → Applies n rs → Applies n (r ∷ rs)
 applies-later p = record { rule = p .rule; listed = List·Memᴰ·tail (p .listed); numbered = p .numbered; unmet = p .unmet }
@@ -72,11 +65,11 @@ not-both : {b : Bool} → b ≡ true → b ≡ false → ⊥
 not-both p q = let z : _≡_ {A = ℕ} 0 1 = cc in omega arith
 
 -- a first rule that is met changes nothing
-met-none : {r : Rule} {rs : List Rule} → r .met ≡ true → ((k : ℕ) → Applies k rs → ⊥) → (k : ℕ) → Applies k (r ∷ rs) → ⊥
-met-none q none k p = ⊎-elim (λ e. not-both q (e .1)) (none k) (applies-cases p)
+none-past-met : {r : Rule} {rs : List Rule} → r .met ≡ true → ((k : ℕ) → Applies k rs → ⊥) → (k : ℕ) → Applies k (r ∷ rs) → ⊥
+none-past-met q none k p = ⊎-elim (λ e. not-both q (e .1)) (none k) (applies-cases p)
 
-met-lowest : {n : ℕ} {r : Rule} {rs : List Rule} → r .met ≡ true → Lowest n rs → Lowest n (r ∷ rs)
-met-lowest q w = record { applies = applies-later (w .applies); least = λ k p. ⊎-elim (λ e. absurd (not-both q (e .1))) (w .least k) (applies-cases p) }
+lowest-past-met : {n : ℕ} {r : Rule} {rs : List Rule} → r .met ≡ true → Lowest n rs → Lowest n (r ∷ rs)
+lowest-past-met q w = record { applies = applies-later (w .applies); least = λ k p. ⊎-elim (λ e. absurd (not-both q (e .1))) (w .least k) (applies-cases p) }
 
 -- one that is not met is the lowest
 unmet-lowest : (r : Rule) (rs : List Rule) → T (rising (r .number) rs) → r .met ≡ false → Lowest (r .number) (r ∷ rs)
@@ -92,7 +85,7 @@ picked a [] t some = absurd (some refl)
 picked a (r ∷ rs) t some = by (r .met) refl (picked (r .number) rs (rest-rising a r rs t))
   where
     by : (b : Bool) → r .met ≡ b → ((lowest rs ≡ 0 → ⊥) → Lowest (lowest rs) rs) → Lowest (lowest (r ∷ rs)) (r ∷ rs)
-    by true q later = let e : lowest (r ∷ rs) ≡ lowest rs = rw q in subst (λ m. Lowest m (r ∷ rs)) (sym e) (met-lowest q (later (λ z. some (e ∙ z))))
+    by true q later = let e : lowest (r ∷ rs) ≡ lowest rs = rw q in subst (λ m. Lowest m (r ∷ rs)) (sym e) (lowest-past-met q (later (λ z. some (e ∙ z))))
     by false q later = let e : lowest (r ∷ rs) ≡ r .number = rw q in subst (λ m. Lowest m (r ∷ rs)) (sym e) (unmet-lowest r rs (rest-rising a r rs t) q)
 
 -- where 0 is picked none applies
@@ -102,7 +95,7 @@ passed a [] t e k p = List·Memᴰ·not-nil (p .listed)
 passed a (r ∷ rs) t e k p = by (r .met) refl (λ z. passed (r .number) rs (rest-rising a r rs t) z) k p
   where
     by : (b : Bool) → r .met ≡ b → (lowest rs ≡ 0 → (k : ℕ) → Applies k rs → ⊥) → (k : ℕ) → Applies k (r ∷ rs) → ⊥
-    by true q later = met-none q (later (rw q at e))
+    by true q later = none-past-met q (later (rw q at e))
     by false q later = let z : r .number ≡ 0 = rw q at e in let above = first-above a r rs t in absurd (omega arith)
 
 module _ (a : ℕ) (rules : List Rule) (up : T (rising a rules)) where
