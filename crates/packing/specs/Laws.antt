@@ -44,10 +44,10 @@ unfolding element
 element-odd s e p = half-odd _ e p
 
 -- elements 2 * j and 2 * j + 1 stand in byte j
-element-low : (s : List ℕ) (j : ℕ) → element s (2 * j) ≡ getD s j 0 % 16
+pub element-low : (s : List ℕ) (j : ℕ) → element s (2 * j) ≡ getD s j 0 % 16
 element-low s j = element-even s (2 * j) (omega arith) ∙ ap (λ i. getD s i 0 % 16) (omega arith)
 
-element-high : (s : List ℕ) (j : ℕ) → element s (2 * j + 1) ≡ getD s j 0 / 16 % 16
+pub element-high : (s : List ℕ) (j : ℕ) → element s (2 * j + 1) ≡ getD s j 0 / 16 % 16
 element-high s j = element-odd s (2 * j + 1) (omega arith) ∙ ap (λ i. getD s i 0 / 16 % 16) (omega arith)
 
 -- the elements of a stream's first n bytes

@@ -2,13 +2,15 @@
 -- Rests on rows' Plus, on Filled and on Unpacked.
 use mathlib.Core.Path.{_≡_, refl, sym, _∙_}
 use mathlib.Core.List.{List}
-use Prim.Native.Nat.{ℕ, _*_}
+use Prim.Native.Nat.{ℕ, _+_, _*_}
 use native.Mathlib.Omega.{arith}
 use Rattle.sets.specs.declared.Set.{Set}
 use Rattle.matrix.specs.RingElements.{powerS}
 use Rattle.scheme.specs.Streams.{T12}
 use Rattle.scheme.specs.Regroup.{powerTimes}
 use Rattle.rows.specs.Plus.{Plus, plus-unique}
+use Rattle.rows.specs.PlusRows.{PlusRows, rows-unique}
+use Rattle.words.specs.Multiples.{Multiples}
 use Rattle.tables.specs.Numbers.{Starts}
 use Rattle.tables.specs.Table.{Filled, filled-unique}
 use Rattle.tables.specs.Gains.{blocksRow, productRow}
@@ -24,6 +26,12 @@ unique-add-block-row d stream at number l r count = plus-unique
 pub unique-add-product-row : (d stream src : List ℕ) (at n number l r count first : ℕ) {t u : List ℕ} → Plus d at n (productRow l stream number r count src n first) t
     → Plus d at n (productRow l stream number r count src n first) u → t ≡ u
 unique-add-product-row d stream src at n number l r count first = plus-unique
+
+-- for a table whose multiples are looked up
+pub unique-add-blocks : (d stream src multiples : List ℕ) (at n number l count first : ℕ) {t u : List ℕ} → Multiples n ((first + count) * l) src multiples
+    → ((src : List ℕ) → Multiples n ((first + count) * l) src multiples → PlusRows d at l n (λ r. productRow l stream number r count src n first) t)
+    → ((src : List ℕ) → Multiples n ((first + count) * l) src multiples → PlusRows d at l n (λ r. productRow l stream number r count src n first) u) → t ≡ u
+unique-add-blocks d stream src multiples at n number l count first m p q = rows-unique (p src m) (q src m)
 
 pub unique-unpack-all : (d stream : List ℕ) (n : ℕ) {t u : List ℕ} → Unpacked stream n d t → Unpacked stream n d u → t ≡ u
 unique-unpack-all d stream n = unpacked-unique

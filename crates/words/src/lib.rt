@@ -133,8 +133,8 @@ pub fn spread(dst: &mut [u8], stream: &[u8], from: usize, n: usize)
     let mut k = 0;
     while k < n {
         let b = stream[from + k];
-        dst[2 * k] = b % 16;
-        dst[2 * k + 1] = b / 16 % 16;
+        dst[2 * k] = b & 15;
+        dst[2 * k + 1] = b >> 4;
         k += 1;
     }
 }

@@ -1,7 +1,10 @@
--- `words::spread` meets its contract. The loop's invariant: k bytes are spread.
-use mathlib.Core.Path.{_≡_, refl, sym, ap, _∙_}
-use Prim.Native.Nat.{_+_, _*_, _-_, _%_, _<_, _≤_}
+-- `words::spread` meets its contract. The loop's invariant: k bytes are spread; the mask keeps the low half, the shift leaves the high one.
+use mathlib.Core.Path.{_≡_, sym, _∙_}
+use Prim.Native.Nat.{_+_, _*_, _-_, _/_, _≤_}
 use lib.ListN.{length, getD, length-set}
+use lib.Bits.{bitAnd, and-mask}
+use Rattle.packing.specs.Packing.{element}
+use Rattle.packing.specs.Laws.{element-low, element-high}
 use Rattle.words.specs.Spread.{Spread, spread-none, spread-next, spread-end}
 use borrow.Author.Needs.{needs}
 use native.Mathlib.Omega.{arith}
@@ -36,7 +39,10 @@ add-dst : tie.Need-add-dst Inv-loop μ-loop
 add-dst c = search needs
 
 slice-write-dst-2 : tie.Need-slice-write-dst-2 Inv-loop μ-loop
-slice-write-dst-2 c = omega (arith, length-set (c .before .before .loop .dst) (2 * c .before .before .loop .k) (getD (c .before .before .before .args .stream .now) (c .before .before .before .args .from + c .before .before .loop .k) 0 % 16), c .before .before .loop .inv .1 .long)
+slice-write-dst-2 c =
+    let at = c .before .before in
+    let a = at .before .args in
+    omega (arith, length-set (at .loop .dst) (2 * at .loop .k) (bitAnd (getD (a .stream .now) (a .from + at .loop .k) 0) 15), at .loop .inv .1 .long)
 
 add-k : tie.Need-add-k Inv-loop μ-loop
 add-k c = search needs
@@ -45,7 +51,14 @@ loop-less : tie.Need-loop-less Inv-loop μ-loop
 loop-less c = search needs
 
 loop-again : tie.Need-loop-again Inv-loop μ-loop
-loop-again c = (search needs, spread-next (c .before .before .loop .inv .1) (omega arith) _ refl)
+loop-again c =
+    let at = c .before .before in
+    let a = at .before .args in
+    let place = a .from + at .loop .k in
+    let b = getD (a .stream .now) place 0 in
+    let low : bitAnd b 15 ≡ element (a .stream .now) (2 * place) = and-mask b 4 ∙ sym (element-low (a .stream .now) place) in
+    let high : b / 16 ≡ element (a .stream .now) (2 * place + 1) = omega (arith, c .shared-slice-known .given place, element-high (a .stream .now) place) in
+    (search needs, spread-next (at .loop .inv .1) (omega arith) _ _ low high)
 
 same-length : tie.Need-same-length Inv-loop μ-loop
 same-length c = search needs

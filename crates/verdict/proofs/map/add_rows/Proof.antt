@@ -2,19 +2,31 @@
 use Rattle.rows.specs.PlusRows.{rows-then}
 use Rattle.words.specs.Multiples.{fewer-multiples}
 use Rattle.verdict.specs.MapRows.{splitRow}
+use Rattle.tables.specs.Rooms.{kept-room}
+use native.Mathlib.Nat.{le-trans}
 use native.Mathlib.Omega.{arith}
 use borrow.Author.Needs.{needs}
 use Rattle.verdict.proofs.map.add_rows.Statement.{statement}
 use Rattle.verdict.proofs.map.add_rows.Tie as tie
 
 mul-n : tie.Need-mul-n
-mul-n c = search needs
+mul-n c = omega (arith, c .before .before .before .before .pre .0 .products .ll)
 
 add-blocks-requires : tie.Need-add-blocks-requires
-add-blocks-requires c κs = search needs
+add-blocks-requires c κs =
+    let s = c .before .before .before .before .before in
+    let bounds = s .pre .0 in (
+      (omega (arith, s .pre .1 .0 .0), s .pre .1 .1 .0),
+      (omega (arith, s .pre .1 .0 .1), (bounds .products .vll, (bounds .limits .v-least, (omega (arith, bounds .limits .l-least), bounds .limits .l-most)))),
+    )
 
 add-blocks-requires-2 : tie.Need-add-blocks-requires-2
-add-blocks-requires-2 c κs = search needs
+add-blocks-requires-2 c κs =
+    let s = c .before .before .before .before .before .before .before .before .before in
+    let bounds = s .pre .0 in (
+      (omega (arith, kept-room (s .pre .1 .0 .0) (c .before .before .before .add-blocks .kept .0)), s .pre .1 .1 .1),
+      (s .pre .1 .0 .1, (le-trans (bounds .limits .row) (omega arith), (bounds .limits .o-least, (omega (arith, bounds .limits .l-least), bounds .limits .l-most)))),
+    )
 
 same-length : tie.Need-same-length
 same-length c = search needs
