@@ -6,6 +6,7 @@ pub mod RingLaws
 pub mod Determinant
 pub mod Invertible
 pub mod Block
+pub mod BlockRows
 pub mod Limits
 pub mod Promises
 pub mod Filling

@@ -25,15 +25,6 @@ pub one-inside : (l r c : ℕ) → r < l → c < l → oneM l r c ≡ pick (eqb 
 unfolding oneM
 one-inside l r c hr hc = rw (mod-eq-of-lt hr, mod-eq-of-lt hc)
 
--- a product's entry, up to the k-th term
-pub mulM-none : (M N : Matrix) (r c : ℕ) → mulM 0 M N r c ≡ 0
-unfolding mulM
-mulM-none M N r c = sum-none field-ring _
-
-pub mulM-more : (k : ℕ) (M N : Matrix) (r c : ℕ) → mulM (k + 1) M N r c ≡ add (mulM k M N r c) (mul (M r k) (N k c))
-unfolding mulM
-mulM-more k M N r c = sum-more field-ring k _
-
 -- S to the k
 pub powerS-none : (l : ℕ) → powerS l 0 ≡ oneM l
 unfolding power

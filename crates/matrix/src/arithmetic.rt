@@ -1,6 +1,8 @@
-// Products, sums, multiples and transposes of matrices: each entry by a named function of the field, 0 outside l.
+// Products, by rows; sums, multiples and transposes of matrices, each entry by a named function of the field. 0 outside l.
 ghost use mathlib.Core.Path.{_≡_};
-ghost use Prim.Native.Nat.{_<_, _≤_};
+ghost use Prim.Native.Nat.{_*_, _<_, _≤_};
+ghost use lib.ListN.{length};
+ghost use Rattle.rows.specs.Plus.{Plus};
 ghost use Rattle.matrix.specs.Matrix.{addM, mulM, scaleM, transpose};
 ghost use Rattle.matrix.specs.Block.{view, block};
 use super::blocks::BYTES;
@@ -11,26 +13,30 @@ use super::blocks::within;
 use field::add;
 use field::mul;
 
-// Row r of a times column c of b.
-fn product_entry(l: usize, a: Block, b: Block, r: usize, c: usize) -> u8
-    requires { ⌜ (l ≤ 5) × ((r < 5) × (c < 5)) ⌝ }
-    ensures { λ x. ⌜ x ≡ mulM l (view a) (view b) r c ⌝ }
+// The l bytes of row r of a block gain row r of a · b: entry y of the left row times row y of b, one after the other.
+fn add_product_row(out: &mut [u8], l: usize, a: &[u8], b: &[u8], r: usize)
+    requires { ⌜ (l ≤ 5) × (r < l) ⌝ }
+    requires { ⌜ (25 ≤ length (now out)) × ((25 ≤ length (now a)) × (25 ≤ length (now b))) ⌝ }
+    ensures { λ _. ⌜ Plus (now (out .entry)) (r * 5) l (mulM l (view (now (a .entry))) (view (now (b .entry))) r) (now (out .exit)) ⌝ }
 {
-    let mut sum: u8 = 0;
-    for k in 0..l {
-        sum = add(sum, mul(entry(a, r, k), entry(b, k, c)));
+    let mut y = 0;
+    while y < l {
+        let scalar = a[r * STRIDE + y];
+        rows::add_scaled(out, r * STRIDE, b, y * STRIDE, l, scalar);
+        y += 1;
     }
-    sum
 }
 
-// a · b.
+// a · b, by its rows.
 pub fn product(l: usize, a: Block, b: Block) -> Block
     requires { ⌜ l ≤ 5 ⌝ }
     ensures { λ r. ⌜ r ≡ block l (mulM l (view a) (view b)) ⌝ }
 {
-    let mut out = [0; BYTES];
-    for e in 0..BYTES {
-        out[e] = within(l, e, product_entry(l, a, b, e / STRIDE, e % STRIDE));
+    let mut out = [0u8; BYTES];
+    let mut r = 0;
+    while r < l {
+        add_product_row(&mut out, l, &a, &b, r);
+        r += 1;
     }
     out
 }

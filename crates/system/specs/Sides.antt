@@ -25,7 +25,7 @@ use Rattle.scheme.specs.Maps.{sumM}
 use Rattle.terms.specs.Reading.{cell-entry}
 use Rattle.terms.specs.Adding.{sum-step}
 use Rattle.system.specs.Products.{HasRows, zero-rows-from}
-use Rattle.system.specs.BlockRows.{widened}
+use Rattle.matrix.specs.BlockRows.{widened}
 
 -- ---- blocks of a table, combined by coefficients q
 

@@ -1,15 +1,14 @@
-// Sums of blocks of a byte table by the coefficients of Algorithm 1, and products of blocks: both by rows of l bytes, so that only entries inside l cost work.
+// Sums of blocks of a byte table by the coefficients of Algorithm 1, by rows of l bytes, so that only entries inside l cost work.
 ghost use mathlib.Core.Path.{_≡_};
 ghost use Prim.Native.Nat.{ℕ, _+_, _*_, _<_, _≤_};
 ghost use lib.ListN.{length};
-ghost use Rattle.rows.specs.Plus.{Plus};
 ghost use Rattle.rows.specs.PlusRows.{PlusRows};
 ghost use Rattle.rows.specs.Tile.{tile};
-ghost use Rattle.matrix.specs.Matrix.{mulM, scaleM};
-ghost use Rattle.matrix.specs.Block.{view, block};
+ghost use Rattle.matrix.specs.Matrix.{scaleM};
+ghost use Rattle.matrix.specs.Block.{block};
+ghost use Rattle.matrix.specs.BlockRows.{blockRow};
 ghost use Rattle.matrix.specs.RingElements.{coefficient};
 ghost use Rattle.scheme.specs.Streams.{groupOf};
-ghost use Rattle.system.specs.BlockRows.{blockRow};
 ghost use Rattle.system.specs.Sides.{combinedFrom};
 use matrix::BYTES;
 use matrix::Block;
@@ -59,32 +58,4 @@ pub fn combined(
         x += 1;
     }
     sum
-}
-
-// The l bytes of row r of a block gain row r of a · b.
-fn add_product_row(out: &mut [u8], l: usize, a: &[u8], b: &[u8], r: usize)
-    requires { ⌜ (l ≤ 5) × (r < l) ⌝ }
-    requires { ⌜ (25 ≤ length (now out)) × ((25 ≤ length (now a)) × (25 ≤ length (now b))) ⌝ }
-    ensures { λ _. ⌜ Plus (now (out .entry)) (r * 5) l (mulM l (view (now (a .entry))) (view (now (b .entry))) r) (now (out .exit)) ⌝ }
-{
-    let mut y = 0;
-    while y < l {
-        let scalar = a[r * STRIDE + y];
-        rows::add_scaled(out, r * STRIDE, b, y * STRIDE, l, scalar);
-        y += 1;
-    }
-}
-
-// a · b, by its rows.
-pub fn product(l: usize, a: Block, b: Block) -> Block
-    requires { ⌜ l ≤ 5 ⌝ }
-    ensures { λ r. ⌜ r ≡ block l (mulM l (view a) (view b)) ⌝ }
-{
-    let mut out = [0u8; BYTES];
-    let mut r = 0;
-    while r < l {
-        add_product_row(&mut out, l, &a, &b, r);
-        r += 1;
-    }
-    out
 }

@@ -9,7 +9,6 @@ ghost use Rattle.matrix.specs.RingElements.{coefficient};
 ghost use Rattle.scheme.specs.Streams.{groupOf};
 ghost use Rattle.system.specs.Sides.{Sides, sideOf, outerRow, cellGain, rowGain};
 use super::blocks::combined;
-use super::blocks::product;
 use matrix::BYTES;
 use matrix::Block;
 use matrix::STRIDE;
@@ -50,8 +49,8 @@ pub fn fill_sides(
             abq,
             group,
         );
-        let right = product(l, middle, last);
-        let side = product(l, first, right);
+        let right = matrix::product(l, middle, last);
+        let side = matrix::product(l, first, right);
         rows::add_scaled(out, k * BYTES, &side, 0, BYTES, 1);
         k += 1;
     }

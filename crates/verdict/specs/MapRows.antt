@@ -16,8 +16,7 @@ use Rattle.matrix.specs.Same.{same-refl}
 use Rattle.scheme.specs.Streams.{blockOf, p11Number, p12Number, p21Number, p22Number, P11, P12, P21, P22}
 use Rattle.scheme.specs.Maps.{sumM, PWith}
 use Rattle.scheme.specs.Parts.{parts-11, parts-12, parts-21, parts-22}
-use Rattle.rows.specs.Plus.{Plus}
-use Rattle.rows.specs.PlusRows.{PlusRows, rows-next}
+use Rattle.rows.specs.PlusRows.{PlusRows}
 use Rattle.rows.specs.Tile.{tile}
 use Rattle.tables.specs.Table.{Holds, holds-rows}
 use Rattle.tables.specs.Gains.{productRow}
@@ -32,10 +31,6 @@ splitRow set left first right second w r z =
 abbrev pub mapSum : (set : Set) (public key w : List ℕ) (i j b : ℕ) → Matrix
 mapSum set public key w i j b =
     sumM (variables set) (λ k. mulM (set .l) (PWith set public (P22 set key) i j k) (tile (set .l) (set .l * set .l) w k b))
-
--- one row more
-pub rows-more : {d t u : List ℕ} {r n : ℕ} {f : ℕ → ℕ → ℕ} → PlusRows d 0 r n f t → Plus t (r * n) n (f r) u → PlusRows d 0 (r + 1) n f u
-rows-more p q = rows-next p (omega arith) q
 
 module _ (set : Set) (left : List ℕ) (first : ℕ) (right : List ℕ) (second : ℕ) (w : List ℕ) (M : ℕ → Matrix)
     (left-is : (k : ℕ) → k < set .v → M k ≡ blockOf (set .l) left (first + k))

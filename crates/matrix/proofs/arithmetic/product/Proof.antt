@@ -1,42 +1,62 @@
--- `matrix::product` meets its contract. The invariant: the bytes so far are those of the block of a · b.
-use mathlib.Core.Path.{refl}
-use Prim.Native.Nat.{_-_}
-use borrow.Author.Needs.{needs}
+-- `matrix::arithmetic::product` meets its contract. The invariant: the first r rows have gained theirs. Rests on BlockRows.
+use mathlib.Core.Path.{_≡_, _∙_}
+use Prim.Native.Nat.{_+_, _*_, _-_, _<_, _≤_}
+use lib.ListN.{length}
+use Rattle.rows.specs.Zero.{zeros, length-zeros}
 use Rattle.matrix.specs.Matrix.{mulM}
 use Rattle.matrix.specs.Block.{view}
-use Rattle.matrix.specs.Filling.{Filling, filling-none, filling-next, filling-end}
+use Rattle.rows.specs.PlusRows.{PlusRows, rows-none, rows-next}
+use Rattle.rows.specs.RowsJoin.{rows-end}
+use Rattle.matrix.specs.BlockRows.{blockRow, block-row, block-filled}
+use borrow.Author.Needs.{needs}
+use native.Mathlib.Omega.{arith}
 use Rattle.matrix.proofs.arithmetic.product.Statement.{statement}
 use Rattle.matrix.proofs.arithmetic.product.Tie as tie
 
 abbrev Inv-loop : tie.InvT-loop
-Inv-loop l a b out₀ e₀ out e = Filling l (mulM l (view a) (view b)) out e
+Inv-loop l a b out₀ r₀ out r = (length out ≡ 25) × ((r ≤ l) × PlusRows (zeros 25) 0 r 5 (blockRow l (mulM l (view a) (view b))) out)
 
 abbrev μ-loop : tie.MeasureT-loop
-μ-loop l a b out₀ e₀ out e = 25 - e
+μ-loop l a b out₀ r₀ out r = l - r
 
 loop-holds : tie.Need-loop-holds Inv-loop μ-loop
-loop-holds c = filling-none _ refl
+loop-holds c = (length-zeros 25, (omega arith, rows-none))
 
-product-entry-requires : tie.Need-product-entry-requires Inv-loop μ-loop
-product-entry-requires c κs = search needs
+slice-aggregate-add-product-row : tie.Need-slice-aggregate-add-product-row Inv-loop μ-loop
+slice-aggregate-add-product-row c = search needs
 
-within-requires : tie.Need-within-requires Inv-loop μ-loop
-within-requires c κs = search needs
+slice-aggregate-add-product-row-2 : tie.Need-slice-aggregate-add-product-row-2 Inv-loop μ-loop
+slice-aggregate-add-product-row-2 c = search needs
 
-array-write-out : tie.Need-array-write-out Inv-loop μ-loop
-array-write-out c = search needs
+slice-aggregate-add-product-row-3 : tie.Need-slice-aggregate-add-product-row-3 Inv-loop μ-loop
+slice-aggregate-add-product-row-3 c = search needs
 
-add-e : tie.Need-add-e Inv-loop μ-loop
-add-e c = search needs
+add-product-row-requires : tie.Need-add-product-row-requires Inv-loop μ-loop
+add-product-row-requires c κs = search needs
+
+add-r : tie.Need-add-r Inv-loop μ-loop
+add-r c = search needs
 
 loop-less : tie.Need-loop-less Inv-loop μ-loop
 loop-less c = search needs
 
 loop-again : tie.Need-loop-again Inv-loop μ-loop
-loop-again c = filling-next (c .before .before .before .loop .inv) (c .before .before .loop-test .taken) (c .within .ensures) (c .before .product-entry .ensures)
+loop-again c =
+    let call = c .before in
+    let now = call .before .before .before .before in
+    let a = now .before .before .args in (
+      omega (arith, call .add-product-row .kept .0, now .before .loop .inv .0),
+      (
+        omega (arith, now .loop-test .taken),
+        rows-next (now .before .loop .inv .1 .1) (omega arith)
+            (block-row (mulM (a .l) (view (a .t2)) (view (a .t3))) (now .before .before .pre) (call .add-product-row .ensures)),
+      ),
+    )
 
 returns : tie.Need-returns Inv-loop μ-loop
-returns c = filling-end (c .before .loop .inv) (c .loop-test .left)
+returns c =
+    let at = c .before in
+    block-filled _ (rows-end (at .loop .inv .1 .1) (at .loop .inv .1 .0) (c .loop-test .left))
 
 pub product-spec : {M : Type 1} → statement M
 product-spec =
@@ -45,10 +65,11 @@ product-spec =
     Inv-loop
     μ-loop
     loop-holds
-    product-entry-requires
-    within-requires
-    array-write-out
-    add-e
+    slice-aggregate-add-product-row
+    slice-aggregate-add-product-row-2
+    slice-aggregate-add-product-row-3
+    add-product-row-requires
+    add-r
     loop-less
     loop-again
     returns)

@@ -4,7 +4,8 @@ use lib.ListN.{length}
 use Rattle.rows.specs.Tile.{tile}
 use Rattle.matrix.specs.Matrix.{scaleM}
 use Rattle.system.specs.Products.{Adding, adding-none, adding-next-at, adding-end}
-use Rattle.system.specs.BlockRows.{blockRow, tile-row, RowFits, row-within}
+use Rattle.matrix.specs.BlockRows.{blockRow}
+use Rattle.system.specs.BlockRows.{tile-row, RowFits, row-within}
 use borrow.Author.Needs.{needs}
 use native.Mathlib.Omega.{arith}
 use Rattle.system.proofs.blocks.add_tile.Statement.{statement}

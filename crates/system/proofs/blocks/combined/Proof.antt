@@ -8,7 +8,8 @@ use Rattle.matrix.specs.Matrix.{scaleM}
 use Rattle.matrix.specs.RingElements.{coefficient}
 use Rattle.scheme.specs.Streams.{groupOf}
 use Rattle.system.specs.Products.{Summing, summing-none, summing-next, summing-end}
-use Rattle.system.specs.BlockRows.{blockRow, block-summed, tile-factor}
+use Rattle.matrix.specs.BlockRows.{blockRow}
+use Rattle.system.specs.BlockRows.{block-summed, tile-factor}
 use Rattle.system.specs.Sides.{combinedFrom, TileFits, tile-fits}
 use borrow.Author.Needs.{needs}
 use native.Mathlib.Omega.{arith}

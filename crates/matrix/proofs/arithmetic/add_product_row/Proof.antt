@@ -1,13 +1,13 @@
--- `system::blocks::add_product_row` meets its contract. The invariant: the row has gained the first y terms of each entry. Rests on BlockRows.
+-- `matrix::arithmetic::add_product_row` meets its contract. The invariant: the row has gained the first y terms of each entry. Rests on BlockRows.
 use Prim.Native.Nat.{_+_, _*_, _-_, _<_, _≤_}
 use Rattle.rows.specs.Plus.{Plus}
 use Rattle.matrix.specs.Matrix.{mulM}
 use Rattle.matrix.specs.Block.{view}
-use Rattle.system.specs.BlockRows.{product-row-none, product-row-next, product-row-end}
+use Rattle.matrix.specs.BlockRows.{product-row-none, product-row-next, product-row-end}
 use borrow.Author.Needs.{needs}
 use native.Mathlib.Omega.{arith}
-use Rattle.system.proofs.blocks.add_product_row.Statement.{statement}
-use Rattle.system.proofs.blocks.add_product_row.Tie as tie
+use Rattle.matrix.proofs.arithmetic.add_product_row.Statement.{statement}
+use Rattle.matrix.proofs.arithmetic.add_product_row.Tie as tie
 
 abbrev Inv-loop : tie.InvT-loop
 Inv-loop out₀ l a b r y₀ out y = (y ≤ l) × Plus out₀ (r * 5) l (mulM y (view a) (view b) r) out

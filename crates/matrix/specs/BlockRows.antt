@@ -1,0 +1,71 @@
+-- The rows of a block gain: row r stands from byte 5·r on, and only its first l bytes gain. A block of zeros whose rows gained M is the block of M.
+-- And a row of a product, entry by entry of the left factor. Rests on Block and rows' PlusRows.
+use mathlib.Core.Path.{_≡_, sym, ap, subst, _∙_}
+use mathlib.Core.List.{List}
+use Prim.Native.Nat.{ℕ, _+_, _*_, _/_, _%_, _<_, _≤_}
+use native.Mathlib.Decide.{decLt}
+use native.Mathlib.Omega.{arith}
+use borrow.Author.Tests.{lt-ltb, le-ltb}
+use lib.Dec.{ltb}
+use lib.ListN.{length, getD}
+use Rattle.ground.specs.Pick.{pick}
+use Rattle.field.specs.Field.{add, mul}
+use Rattle.field.specs.Laws.{add-zero, zero-add}
+use Rattle.rows.specs.Zero.{zeros, length-zeros, zero-at}
+use Rattle.rows.specs.Plus.{Plus, plus-sum-none, plus-sum-next}
+use Rattle.rows.specs.PlusRows.{PlusRows}
+use Rattle.matrix.specs.Matrix.{Matrix, mulM}
+use Rattle.matrix.specs.Block.{view, block, block-ext, cell, inside}
+
+-- row r of M: its entries inside l, and nothing behind them
+unfoldable pub blockRow : (l : ℕ) (M : Matrix) → ℕ → ℕ → ℕ
+blockRow l M r c = pick (ltb c l) (M r c) 0
+
+-- a part that gained is a longer part of which the rest gained nothing
+pub widened : {d t : List ℕ} {at n m : ℕ} {f : ℕ → ℕ} → n ≤ m → Plus d at n f t → Plus d at m (λ c. pick (ltb c n) (f c) 0) t
+widened {d} {t} {at} {n} {m} {f} w p = record {
+  long = p .long;
+  inside = λ k h.
+      elim (decLt k n) [
+        | yes b ↦ p .inside k b ∙ ap (add (getD d (at + k) 0)) (rw (lt-ltb k n b))
+        | no b ↦ let past : n ≤ k = omega arith in p .high (at + k) (omega arith) ∙ sym (rw (le-ltb k n past) (add-zero _))
+      ];
+  low = p .low;
+  high = λ k h. p .high k (omega arith);
+}
+
+pub block-row : {l r at : ℕ} (M : Matrix) {d t : List ℕ} → l ≤ 5 → Plus d at l (M r) t → Plus d at 5 (blockRow l M r) t
+unfolding blockRow
+block-row M small p = widened small p
+
+-- zeros whose rows gained M
+pub block-filled : {l : ℕ} (M : Matrix) {t : List ℕ} → PlusRows (zeros 25) 0 l 5 (blockRow l M) t → t ≡ block l M
+unfolding blockRow cell inside
+block-filled {l} M {t} p = block-ext t l M (p .long ∙ length-zeros 25) byte
+  where
+    byte : (e : ℕ) → e < 25 → getD t e 0 ≡ cell l M e
+    byte e h =
+        elim (decLt (e / 5) l) [
+          | yes b ↦
+              let place : 0 + (e / 5 * 5 + e % 5) ≡ e = omega arith in
+              let column : e % 5 < 5 = omega arith in
+              ap (λ x. getD t x 0) (sym place) ∙ p .inside (e / 5) (e % 5) b column ∙ ap (λ x. add x (blockRow l M (e / 5) (e % 5))) (zero-at 25 (0 + (e / 5 * 5 + e % 5))) ∙ zero-add (blockRow l M (e / 5) (e % 5))
+              ∙ sym (rw (lt-ltb (e / 5) l b))
+          | no b ↦
+              let past : l ≤ e / 5 = omega arith in
+              p .high e (omega arith) ∙ zero-at 25 e ∙ sym (rw (le-ltb (e / 5) l past))
+        ]
+
+-- ---- a row of a product, entry by entry of the left factor
+
+pub product-row-none : (a b : List ℕ) (r : ℕ) {d : List ℕ} {at l : ℕ} → Plus d at l (mulM 0 (view a) (view b) r) d
+unfolding mulM
+product-row-none a b r = plus-sum-none (λ y c. mul (view a r y) (view b y c))
+
+pub product-row-next : (a b : List ℕ) (r y : ℕ) {d t u : List ℕ} {at l : ℕ} → Plus d at l (mulM y (view a) (view b) r) t
+    → Plus t at l (λ c. mul (getD a (r * 5 + y) 0) (getD b (y * 5 + c) 0)) u → Plus d at l (mulM (y + 1) (view a) (view b) r) u
+unfolding mulM view
+product-row-next a b r y p q = plus-sum-next (λ y c. mul (view a r y) (view b y c)) p q
+
+pub product-row-end : (a b : List ℕ) (r : ℕ) {d t : List ℕ} {at l y : ℕ} → y ≤ l → l ≤ y → Plus d at l (mulM y (view a) (view b) r) t → Plus d at l (mulM l (view a) (view b) r) t
+product-row-end a b r {d} {t} {at} {l} h k p = subst (λ n. Plus d at l (mulM n (view a) (view b) r) t) (omega arith) p
