@@ -1,6 +1,7 @@
 // GF(16): polynomials over GF(2) modulo x⁴ + x + 1, an element to a byte. Sums are exclusive or; products read their factors modulo 16, so no caller owes a bound.
 // No table: a `const` array is copied at each look-up, and this arithmetic is vectorised where it stands in a loop.
 ghost use mathlib.Core.Path.{_≡_};
+ghost use Prim.Native.Nat.{_*_, _%_};
 ghost use Rattle.field.specs.Field.{add as sum, mul as product, inverse as inverseOf, chosenOf};
 
 // a + b: exclusive or.
@@ -18,11 +19,18 @@ pub fn twice(a: u8) -> u8
     (x * 2 % 16) ^ (x / 8 * 3)
 }
 
+// x where b has the coefficient of 1, else 0. As a product, x * (b % 2), it would be compiled to a branch that is often mispredicted.
+fn low_chosen(x: u8, b: u8) -> u8
+    ensures { λ r. ⌜ r ≡ x * (b % 2) ⌝ }
+{
+    if b % 2 == 0 { 0 } else { x }
+}
+
 // The sum of those of x1, x2, x4, x8 whose coefficient b has.
 pub fn chosen(x1: u8, x2: u8, x4: u8, x8: u8, b: u8) -> u8
     ensures { λ r. ⌜ r ≡ chosenOf x1 x2 x4 x8 b ⌝ }
 {
-    (x1 * (b % 2)) ^ ((x2 * (b / 2 % 2)) ^ ((x4 * (b / 4 % 2)) ^ (x8 * (b / 8 % 2))))
+    low_chosen(x1, b) ^ ((x2 * (b / 2 % 2)) ^ ((x4 * (b / 4 % 2)) ^ (x8 * (b / 8 % 2))))
 }
 
 // a · b: the multiples of a by 1, x, x², x³, those chosen that b has.

@@ -17,7 +17,7 @@ pub const LEAST: usize = 2;
 pub const MOST: usize = 4;
 
 // l is within the limits.
-pub fn size_allowed(l: usize) -> bool
+fn size_allowed(l: usize) -> bool
     ensures { λ r. ⌜ r ≡ sizeAllowed l ⌝ }
 {
     LEAST <= l && l <= MOST

@@ -50,7 +50,7 @@ pub fn put(s: &mut [u8], e: usize, x: u8)
 }
 
 // No element is above 15.
-pub fn in_field(elements: &[u8]) -> bool
+fn in_field(elements: &[u8]) -> bool
     ensures { λ r. ⌜ r ≡ inField (now (elements .entry)) ⌝ }
 {
     let mut k = 0;

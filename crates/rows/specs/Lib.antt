@@ -1,4 +1,3 @@
-pub mod LowChosen
 pub mod Plus
 pub mod Combine
 pub mod PlusRows

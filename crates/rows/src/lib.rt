@@ -1,7 +1,7 @@
 // Byte rows, an element to a byte: a part of a row gains a scalar times a row, elements of a packed stream, or a sum of such terms.
 // Key generation, the verdict, signing and elimination do their work by these. `Plus` of specs/Plus.antt says what a part gains.
 ghost use mathlib.Core.Path.{_≡_};
-ghost use Prim.Native.Nat.{ℕ, _+_, _*_, _%_, _<_, _≤_};
+ghost use Prim.Native.Nat.{ℕ, _+_, _*_, _<_, _≤_};
 ghost use lib.ListN.{length, getD};
 ghost use Rattle.field.specs.Field.{mul};
 ghost use Rattle.packing.specs.Packing.{element};
@@ -9,13 +9,6 @@ ghost use Rattle.packing.specs.Written.{Written};
 ghost use Rattle.rows.specs.Plus.{Plus};
 ghost use Rattle.rows.specs.Combine.{combination};
 ghost use Rattle.rows.specs.Zero.{zeros};
-
-// x where b has the coefficient of 1, else 0. As a product, x * (b % 2), it would be compiled to a branch that is often mispredicted.
-fn low_chosen(x: u8, b: u8) -> u8
-    ensures { λ r. ⌜ r ≡ x * (b % 2) ⌝ }
-{
-    if b % 2 == 0 { 0 } else { x }
-}
 
 // dst[at..at + n] gains s times src[from..from + n]: the one hot leaf. The compiler makes vectors of the loop.
 pub fn add_scaled(dst: &mut [u8], at: usize, src: &[u8], from: usize, n: usize, s: u8)
@@ -29,7 +22,7 @@ pub fn add_scaled(dst: &mut [u8], at: usize, src: &[u8], from: usize, n: usize, 
     let mut i = 0;
     while i < n {
         let b = src[from + i];
-        dst[at + i] ^= low_chosen(s1, b) ^ field::chosen(0, s2, s4, s8, b);
+        dst[at + i] ^= field::chosen(s1, s2, s4, s8, b);
         i += 1;
     }
 }

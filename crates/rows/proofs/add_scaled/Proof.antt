@@ -1,11 +1,11 @@
--- `rows::add_scaled` meets its contract. The loop's invariant: dst is the row at entry with the first i bytes gained. The byte gained is s · b (`mul-low-chosen`).
-use mathlib.Core.Path.{refl}
+-- `rows::add_scaled` meets its contract. The loop's invariant: dst is the row at entry with the first i bytes gained. The byte gained is s · b (`mul-chosen`).
+use mathlib.Core.Path.{refl, _∙_}
 use Prim.Native.Nat.{_+_, _-_, _≤_}
 use native.Mathlib.Omega.{arith}
 use lib.ListN.{getD}
 use borrow.Author.Needs.{needs}
 use Rattle.field.specs.Field.{add, mul}
-use Rattle.rows.specs.LowChosen.{mul-low-chosen}
+use Rattle.field.specs.Laws.{mul-chosen}
 use Rattle.rows.specs.Plus.{Plus, plus-none, plus-next, plus-end}
 use Rattle.rows.proofs.add_scaled.Statement.{statement}
 use Rattle.rows.proofs.add_scaled.Tie as tie
@@ -34,9 +34,6 @@ add-b c = search needs
 shared-slice-read-b : tie.Need-shared-slice-read-b Inv-loop μ-loop
 shared-slice-read-b c = search needs
 
-low-chosen-requires : tie.Need-low-chosen-requires Inv-loop μ-loop
-low-chosen-requires c κs = search needs
-
 chosen-requires : tie.Need-chosen-requires Inv-loop μ-loop
 chosen-requires c κs = search needs
 
@@ -58,12 +55,12 @@ loop-less c = search needs
 loop-again : tie.Need-loop-again Inv-loop μ-loop
 unfolding add
 loop-again c =
-    let turn = c .before .before .before .before .before in
+    let turn = c .before .before .before .before in
     let first = turn .before .before .before in (
       search needs,
-      plus-next (turn .loop .inv .1) (omega arith) (add (c .before .before .low-chosen .result) (c .before .chosen .result))
-          (mul-low-chosen (first .before .before .before .args .s) _ _ _ _ _ refl (first .twice .ensures) (turn .before .before .twice2 .ensures) (turn .before .twice3 .ensures)
-          (c .before .before .low-chosen .ensures) (c .before .chosen .ensures)),
+      plus-next (turn .loop .inv .1) (omega arith) (c .before .chosen .result)
+          (c .before .chosen .ensures
+          ∙ mul-chosen (first .before .before .before .args .s) _ _ _ _ _ refl (first .twice .ensures) (turn .before .before .twice2 .ensures) (turn .before .twice3 .ensures)),
     )
 
 same-length : tie.Need-same-length Inv-loop μ-loop
@@ -84,7 +81,6 @@ add-scaled-spec =
     loop-holds
     add-b
     shared-slice-read-b
-    low-chosen-requires
     chosen-requires
     add-dst
     slice-read-dst

@@ -1,10 +1,10 @@
--- `rows::low_chosen` meets its contract: b % 2 is 0 in one arm and 1 in the other.
+-- `field::low_chosen` meets its contract: b % 2 is 0 in one arm and 1 in the other.
 use mathlib.Core.Path.{_≡_, sym}
 use Prim.Native.Nat.{_%_}
 use native.Mathlib.Nat.{mul-one, mul-zero}
 use native.Mathlib.Omega.{arith}
-use Rattle.rows.proofs.low_chosen.Statement.{statement}
-use Rattle.rows.proofs.low_chosen.Tie as tie
+use Rattle.field.proofs.low_chosen.Statement.{statement}
+use Rattle.field.proofs.low_chosen.Tie as tie
 
 returns : tie.Need-returns
 returns c = rw (c .if1 .taken) (sym (mul-zero _))
