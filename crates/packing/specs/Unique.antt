@@ -26,5 +26,3 @@ unique-element s e a b = unique-equation a b
 pub unique-packed-bytes : (k : ℕ) {r r′ : ℕ} → r ≡ packedBytes k → r′ ≡ packedBytes k → r ≡ r′
 unique-packed-bytes k a b = unique-equation a b
 
-pub unique-in-field : (elements : List ℕ) {r r′ : Bool} → r ≡ inField elements → r′ ≡ inField elements → r ≡ r′
-unique-in-field elements a b = unique-equation a b
