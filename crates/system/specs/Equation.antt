@@ -33,7 +33,7 @@ use Rattle.scheme.specs.Regroup.{q1Of, q2Of}
 use Rattle.terms.specs.Places.{Term, index-lt}
 use Rattle.terms.specs.Terms.{equationFrom, termFrom}
 use Rattle.tables.specs.Table.{cleared}
-use Rattle.system.specs.Products.{HasRows, zero-rows-from}
+use Rattle.tables.specs.Sums.{HasRows, zero-rows-from}
 use Rattle.system.specs.Sides.{Sides, sideOf, combinedFrom, outerRow, cellGain, rowGain}
 
 module _ (set : Set) (abq left right sp : List ℕ) where

@@ -1,5 +1,5 @@
 -- One term of an equation: the blocks A·L·Q2 and Q1·R·B for each oil index, and what its rows of the system gain from them.
--- Rests on matrix's blocks, rows' PlusRows and Products.
+-- Rests on matrix's blocks, rows' PlusRows and tables' Sums.
 use mathlib.Core.Path.{_≡_, sym, ap, _∙_}
 use mathlib.Core.List.{List}
 use Prim.Native.Nat.{ℕ, _+_, _*_, _/_, _%_, _<_, _≤_}
@@ -24,7 +24,7 @@ use Rattle.matrix.specs.Block.{view, block, block-same, holds, cell, cell-at, g
 use Rattle.scheme.specs.Maps.{sumM}
 use Rattle.terms.specs.Reading.{cell-entry}
 use Rattle.terms.specs.Adding.{sum-step}
-use Rattle.system.specs.Products.{HasRows, zero-rows-from}
+use Rattle.tables.specs.Sums.{HasRows, zero-rows-from}
 use Rattle.system.specs.BlockRows.{widened}
 
 -- ---- blocks of a table, combined by coefficients q

@@ -1,9 +1,10 @@
 // Tables of bytes that key generation, the verdict and signing share: the powers of S, the private matrix T12, the powers of S times a list of matrices,
-// and rows of products of a stream's blocks with such a table. A table with rows of w bytes holds block (j, k) at rows j·l .. and columns k·l .. .
+// rows of products of a stream's blocks with such a table, and products of whole tables. A table with rows of w bytes holds block (j, k) at rows j·l .. and columns k·l .. .
 mod numbers;
 mod powers;
 mod private;
 mod products;
+mod sums;
 
 pub use numbers::p11_number;
 pub use numbers::p12_number;
@@ -13,6 +14,9 @@ pub use powers::power_table;
 pub use powers::powers_of_s;
 pub use private::private_table;
 pub use products::add_blocks;
+pub use sums::add_left;
+pub use sums::add_times;
+pub use sums::add_transposed;
 ghost use mathlib.Core.Path.{_≡_};
 ghost use Prim.Native.Nat.{ℕ, _+_, _*_, _^_, _<_, _≤_};
 ghost use lib.ListN.{length};

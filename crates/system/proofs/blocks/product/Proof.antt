@@ -1,11 +1,11 @@
--- `system::blocks::product` meets its contract. The invariant: the first r rows have gained theirs. Rests on BlockRows and Products.
+-- `system::blocks::product` meets its contract. The invariant: the first r rows have gained theirs. Rests on BlockRows and tables' Sums.
 use mathlib.Core.Path.{_≡_, _∙_}
 use Prim.Native.Nat.{_+_, _*_, _-_, _<_, _≤_}
 use lib.ListN.{length}
 use Rattle.rows.specs.Zero.{zeros, length-zeros}
 use Rattle.matrix.specs.Matrix.{mulM}
 use Rattle.matrix.specs.Block.{view}
-use Rattle.system.specs.Products.{Adding, adding-none, adding-next-at, adding-end}
+use Rattle.tables.specs.Sums.{Adding, adding-none, adding-next-at, adding-end}
 use Rattle.system.specs.BlockRows.{blockRow, block-row, block-filled}
 use borrow.Author.Needs.{needs}
 use native.Mathlib.Omega.{arith}
