@@ -1,12 +1,11 @@
 -- No second outcome meets a contract of this crate: the answer and every lent buffer are fixed by what went in.
 -- Rests on Written and on ground's Outcome. `element`, `in_field` and `packed_bytes` are equations with a definition: ground's `unique-equation`.
 use mathlib.Core.Path.{_≡_}
-use mathlib.Core.Bool.{Bool}
 use mathlib.Core.List.{List}
 use Prim.Native.Nat.{ℕ}
 use Rattle.ground.specs.Outcome.{unique-writes, unique-equation}
 use Rattle.ground.specs.declared.Answer.{Answer}
-use Rattle.packing.specs.Packing.{element, packedBytes, inField, Packs, Unpacks, Bytes}
+use Rattle.packing.specs.Packing.{element, packedBytes, Packs, Unpacks, Bytes}
 use Rattle.packing.specs.Written.{Put, put-unique}
 
 pub unique-pack : (elements : List ℕ) {before : List ℕ} {r r′ : Answer} {after after′ : List ℕ} → Packs elements before r after → Packs elements before r′ after′
@@ -25,4 +24,3 @@ unique-element s e a b = unique-equation a b
 
 pub unique-packed-bytes : (k : ℕ) {r r′ : ℕ} → r ≡ packedBytes k → r′ ≡ packedBytes k → r ≡ r′
 unique-packed-bytes k a b = unique-equation a b
-

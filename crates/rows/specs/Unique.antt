@@ -20,10 +20,6 @@ pub unique-add-elements : (d stream : List ℕ) (at from n : ℕ) {t u : List �
     → Plus d at n (λ c. element stream (from + c)) u → t ≡ u
 unique-add-elements d stream at from n = plus-unique
 
-pub unique-add-rows : (d stream src : List ℕ) (at n from count first : ℕ) {t u : List ℕ} → Plus d at n (combination (λ x. element stream (from + x)) src n first count) t
-    → Plus d at n (combination (λ x. element stream (from + x)) src n first count) u → t ≡ u
-unique-add-rows d stream src at n from count first = plus-unique
-
 pub unique-add-columns : (d scalars src : List ℕ) (at n place stride count first : ℕ) {t u : List ℕ}
     → Plus d at n (combination (λ x. getD scalars (place + x * stride) 0) src n first count) t
     → Plus d at n (combination (λ x. getD scalars (place + x * stride) 0) src n first count) u → t ≡ u

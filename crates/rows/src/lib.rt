@@ -39,30 +39,6 @@ pub fn add_elements(dst: &mut [u8], at: usize, stream: &[u8], from: usize, n: us
     }
 }
 
-// dst[at..at + n] gains the sum, over x below count, of element from + x of a packed stream times row first + x of src, in rows of n bytes.
-pub fn add_rows(
-    dst: &mut [u8],
-    at: usize,
-    n: usize,
-    stream: &[u8],
-    from: usize,
-    count: usize,
-    src: &[u8],
-    first: usize,
-)
-    requires { ⌜ (at + n ≤ length (now dst)) × (from + count ≤ 2 * length (now stream)) × ((first + count) * n ≤ length (now src)) ⌝ }
-    ensures { λ _. ⌜ Plus (now (dst .entry)) at n (combination (λ x. element (now (stream .entry)) (from + x)) (now (src .entry)) n first count) (now (dst .exit)) ⌝ }
-{
-    let mut row = first * n;
-    let mut x = 0;
-    while x < count {
-        let scalar = packing::element(stream, from + x);
-        add_scaled(dst, at, src, row, n, scalar);
-        row += n;
-        x += 1;
-    }
-}
-
 // dst[at..at + n] gains the sum, over x below count, of scalars[place + x * stride] times row first + x of src, in rows of n bytes:
 // the scalars are a column of a byte table.
 pub fn add_columns(

@@ -1,26 +1,23 @@
 -- The rows of a block gain those of a table's blocks, times their factors.
 -- Rests on matrix's rows of blocks.
-use mathlib.Core.Path.{_≡_, refl, sym, ap, subst, _∙_}
+use mathlib.Core.Path.{_≡_, refl, sym, ap, subst}
 use mathlib.Core.Bool.{Bool, true, false}
 use mathlib.Core.List.{List}
-use Prim.Native.Nat.{ℕ, _+_, _*_, _/_, _%_, _<_, _≤_}
+use Prim.Native.Nat.{ℕ, _+_, _*_, _<_, _≤_}
 use native.Mathlib.Nat.{le-mul-of-pos-right}
-use native.Mathlib.Decide.{decLt}
 use native.Mathlib.Omega.{arith}
-use borrow.Author.Tests.{lt-ltb, le-ltb}
 use lib.Dec.{ltb}
-use lib.ListN.{length, getD}
+use lib.ListN.{getD}
 use Rattle.ground.specs.Pick.{pick}
 use Rattle.ground.specs.Place.{row-fits}
 use Rattle.algebra.specs.Sum.{sum, sum-zeros}
 use Rattle.field.specs.Field.{add, mul}
-use Rattle.field.specs.Laws.{add-zero, zero-add}
 use Rattle.field.specs.FieldRing.{field-ring}
-use Rattle.rows.specs.Zero.{zeros, length-zeros, zero-at}
-use Rattle.rows.specs.Plus.{Plus, plus-cong, plus-sum-none, plus-sum-next}
+use Rattle.rows.specs.Zero.{zeros}
+use Rattle.rows.specs.Plus.{Plus, plus-cong}
 use Rattle.rows.specs.PlusRows.{PlusRows, rows-cong}
 use Rattle.rows.specs.Tile.{tile}
-use Rattle.matrix.specs.Matrix.{Matrix, mulM, scaleM}
+use Rattle.matrix.specs.Matrix.{Matrix, scaleM}
 use Rattle.matrix.specs.Same.{sum-entry}
 use Rattle.matrix.specs.Block.{block}
 use Rattle.matrix.specs.BlockRows.{blockRow, block-row, block-filled}

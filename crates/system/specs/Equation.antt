@@ -3,7 +3,7 @@
 use mathlib.Core.Path.{_≡_, refl, sym, ap, ap₂, _∙_}
 use mathlib.Core.List.{List}
 use Prim.Native.Nat.{ℕ, _+_, _*_, _/_, _%_, _<_, _≤_}
-use native.Mathlib.Nat.{mul-le-mul, mul-le-mul-right, le-mul-of-pos-right, div-lt-iff-lt-mul, mod-lt, zero-add as zero-plus}
+use native.Mathlib.Nat.{mul-le-mul, mul-le-mul-right, div-lt-iff-lt-mul, mod-lt}
 use native.Mathlib.Decide.{decLt}
 use native.Mathlib.Omega.{arith}
 use borrow.Author.Tests.{lt-ltb, le-ltb}
@@ -18,22 +18,21 @@ use Rattle.field.specs.Laws.{add-zero, one-mul, mul-lt}
 use Rattle.field.specs.FieldRing.{field-ring, sum-lt}
 use Rattle.packing.specs.Packing.{element}
 use Rattle.rows.specs.Zero.{zeros, length-zeros}
-use Rattle.rows.specs.Plus.{Plus, plus-cong, plus-then}
+use Rattle.rows.specs.Plus.{Plus, plus-then}
 use Rattle.rows.specs.PlusRows.{PlusRows, rows-cong}
-use Rattle.rows.specs.Tile.{tile}
 use Rattle.sets.specs.declared.Set.{Set}
-use Rattle.sets.specs.Sets.{terms, targetCount, targetBytes}
+use Rattle.sets.specs.Sets.{terms, targetBytes}
 use Rattle.sets.specs.Bounds.{Bounds}
-use Rattle.matrix.specs.Matrix.{Matrix, mulM, transpose}
-use Rattle.matrix.specs.Same.{Same, same-refl, same-mul, mulM-lt, sumM-lt}
+use Rattle.matrix.specs.Matrix.{Matrix, transpose}
+use Rattle.matrix.specs.Same.{same-refl, same-mul, mulM-lt, sumM-lt}
 use Rattle.matrix.specs.Block.{view, block, block-same, holds, cell, cell-at, getD-block}
 use Rattle.scheme.specs.Streams.{A, B}
-use Rattle.scheme.specs.Maps.{sumM, matrixIndex}
+use Rattle.scheme.specs.Maps.{matrixIndex}
 use Rattle.scheme.specs.Regroup.{q1Of, q2Of}
-use Rattle.terms.specs.Places.{Term, index-lt}
+use Rattle.terms.specs.Places.{Term}
 use Rattle.terms.specs.Terms.{equationFrom, termFrom}
 use Rattle.tables.specs.Table.{cleared}
-use Rattle.system.specs.Products.{HasRows, zero-rows-from}
+use Rattle.tables.specs.Sums.{HasRows, zero-rows-from}
 use Rattle.system.specs.Sides.{Sides, sideOf, combinedFrom, outerRow, cellGain, rowGain}
 
 module _ (set : Set) (abq left right sp : List ℕ) where

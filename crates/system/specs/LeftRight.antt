@@ -1,28 +1,29 @@
 -- The rows of the left sums, the right sums and the vinegar's power sums as the code adds them, and the matrices that they are.
 -- A table is given by its blocks: x has S^b·X_j at block (j, b), in rows of l·l bytes, and t has T12(u, k), in rows of o·l bytes.
--- Rests on Products, tables' entries and scheme's streams.
+-- Rests on Products, tables' entries and sums, and scheme's streams.
 use mathlib.Core.Path.{_≡_, sym, ap, ap₂, _∙_}
 use mathlib.Core.List.{List}
-use Prim.Native.Nat.{ℕ, _+_, _*_, _/_, _%_, _<_, _≤_}
-use native.Mathlib.Nat.{le-refl, zero-add as zero-plus}
+use Prim.Native.Nat.{ℕ, _+_, _*_, _<_}
+use native.Mathlib.Nat.{zero-add as zero-plus}
 use native.Mathlib.Omega.{arith}
-use lib.Arith.{digits-lt, digits-div, digits-mod}
-use lib.ListN.{length, getD}
-use Rattle.algebra.specs.Sum.{sum, sum-cong}
+use lib.Arith.{digits-div, digits-mod}
+use lib.ListN.{getD}
+use Rattle.algebra.specs.Sum.{sum-cong}
 use Rattle.field.specs.Field.{add, mul}
 use Rattle.field.specs.FieldRing.{field-ring}
 use Rattle.sets.specs.declared.Set.{Set}
 use Rattle.matrix.specs.Matrix.{Matrix, addM, mulM, transpose}
 use Rattle.matrix.specs.MatrixRing.{matrices}
-use Rattle.matrix.specs.Same.{Same, same-refl}
+use Rattle.matrix.specs.Same.{same-refl}
 use Rattle.scheme.specs.Streams.{blockOf, p11Number, p12Number, p21Number, P11, P12, P21}
 use Rattle.scheme.specs.Maps.{sumM}
-use Rattle.scheme.specs.Regroup.{products-entry, transposed-entry}
+use Rattle.scheme.specs.Regroup.{transposed-entry}
 use Rattle.rows.specs.Tile.{tile, sum-blocks}
 use Rattle.tables.specs.Table.{Holds}
-use Rattle.tables.specs.Gains.{blocksRow, productRow}
-use Rattle.tables.specs.Entries.{blocks-row-entry, product-row-entry}
-use Rattle.system.specs.Products.{productsRow, transposedGain, timesGain, leftGain, rowsOf}
+use Rattle.tables.specs.Gains.{productRow}
+use Rattle.tables.specs.Entries.{product-row-entry}
+use Rattle.tables.specs.Sums.{transposedGain, timesGain, leftGain, rowsOf, times-blocks, left-blocks}
+use Rattle.system.specs.Products.{productsRow}
 
 -- ---- rows of products, by blocks
 
@@ -47,23 +48,6 @@ module _ (l : ℕ) {r c : ℕ} (hr : r < l) (hc : c < l) where
       ap₂ mul (ap (λ p. getD t p 0) place) (e j x hj hx)))
       ∙ sym (transposed-entry l count (λ j. tile l m t j k) Y r c)
 
-  pub times-blocks : (f : ℕ → ℕ → ℕ) (count n : ℕ) (t : List ℕ) (a k : ℕ) (X : ℕ → Matrix) → ((u x : ℕ) → u < count → x < l → f (a * l + r) (u * l + x) ≡ X u r x)
-      → timesGain f (count * l) (rowsOf n t) (a * l + r) (k * l + c) ≡ sumM count (λ u. mulM l (X u) (tile l n t u k)) r c
-  unfolding timesGain rowsOf tile
-  times-blocks f count n t a k X e =
-      sum-blocks field-ring count l (λ s. mul (f (a * l + r) s) (getD t (s * n + (k * l + c)) 0))
-      ∙ sum-cong field-ring count (λ u hu. sum-cong field-ring l (λ x hx. ap (λ p. mul p (getD t ((u * l + x) * n + (k * l + c)) 0)) (e u x hu hx)))
-      ∙ sym (products-entry l count X (λ u. tile l n t u k) r c)
-
-  pub left-blocks : (v : ℕ) (x stream : List ℕ) (number count a k : ℕ)
-      → leftGain l v x stream number count (a * l + r) (k * l + c) ≡ sumM v (λ j. mulM l (transpose (tile l (l * l) x j a)) (blockOf l stream (number + j * count + k))) r c
-  unfolding leftGain transposedGain tile
-  left-blocks v x stream number count a k =
-      sum-cong field-ring v (λ j hj. sum-cong field-ring l (λ s hs.
-      let place : j * (l * (l * l)) + (a * l + r) + s * (l * l) ≡ (j * l + s) * (l * l) + (a * l + r) = omega arith in
-      ap₂ mul (ap (λ p. getD x p 0) place) (blocks-row-entry l stream (number + j * count) s k hc)))
-      ∙ sym (transposed-entry l v (λ j. tile l (l * l) x j a) (λ j. blockOf l stream (number + j * count + k)) r c)
-
 -- ---- the rows as the code adds them
 
 module _ (set : Set) (public x : List ℕ) where
@@ -82,8 +66,8 @@ module _ (set : Set) (public x : List ℕ) where
 
   abbrev pub leftRow : List ℕ → ℕ → ℕ → ℕ → ℕ
   leftRow t i y z =
-      add (leftGain (set .l) (set .v) x public (p12Number set i 0 0) (set .o) y z)
-      (timesGain (leftGain (set .l) (set .v) x public (p11Number set i 0 0) (set .v)) (set .v * set .l) (rowsOf (set .o * set .l) t) y z)
+      add (leftGain (set .l) (set .v) x (set .l * set .l) public (p12Number set i 0 0) (set .o) y z)
+      (timesGain (leftGain (set .l) (set .v) x (set .l * set .l) public (p11Number set i 0 0) (set .v)) (set .v * set .l) (rowsOf (set .o * set .l) t) y z)
 
   -- ---- the matrices that they are
 
@@ -116,10 +100,10 @@ module _ (set : Set) (public x : List ℕ) where
         let number : p11Number set i 0 0 + u * set .v + j ≡ p11Number set i u j = omega arith in
         ap (λ p. mulM (set .l) (blockOf (set .l) public p) (tile (set .l) (set .l * set .l) x j b)) number))
 
-    z-blocks : (u a : ℕ) → leftGain (set .l) (set .v) x public (p11Number set i 0 0) (set .v) (a * set .l + r) (u * set .l + c) ≡ leftP11From i u a r c
+    z-blocks : (u a : ℕ) → leftGain (set .l) (set .v) x (set .l * set .l) public (p11Number set i 0 0) (set .v) (a * set .l + r) (u * set .l + c) ≡ leftP11From i u a r c
     unfolding leftP11From P11
     z-blocks u a =
-        left-blocks (set .l) hr hc (set .v) x public (p11Number set i 0 0) (set .v) a u
+        left-blocks (set .l) hr hc (set .v) x (set .l * set .l) public (p11Number set i 0 0) (set .v) a u
         ∙ ap (λ M. M r c) (sum-cong (matrices (set .l)) (set .v) (λ j h.
         let number : p11Number set i 0 0 + j * set .v + u ≡ p11Number set i j u = omega arith in
         ap (λ p. mulM (set .l) (transpose (tile (set .l) (set .l * set .l) x j a)) (blockOf (set .l) public p)) number))
@@ -143,9 +127,9 @@ module _ (set : Set) (public x : List ℕ) where
     unfolding leftFrom addM P12
     left-row-blocks t a k =
         ap₂ add
-        (left-blocks (set .l) hr hc (set .v) x public (p12Number set i 0 0) (set .o) a k
+        (left-blocks (set .l) hr hc (set .v) x (set .l * set .l) public (p12Number set i 0 0) (set .o) a k
         ∙ ap (λ M. M r c) (sum-cong (matrices (set .l)) (set .v) (λ j h.
         let number : p12Number set i 0 0 + j * set .o + k ≡ p12Number set i j k = omega arith in
         ap (λ p. mulM (set .l) (transpose (tile (set .l) (set .l * set .l) x j a)) (blockOf (set .l) public p)) number)))
-        (times-blocks (set .l) hr hc (leftGain (set .l) (set .v) x public (p11Number set i 0 0) (set .v)) (set .v) (set .o * set .l) t a k (λ u. leftP11From i u a)
+        (times-blocks (set .l) hr hc (leftGain (set .l) (set .v) x (set .l * set .l) public (p11Number set i 0 0) (set .v)) (set .v) (set .o * set .l) t a k (λ u. leftP11From i u a)
         (λ u s hu hs. z-blocks i hr hs u a))

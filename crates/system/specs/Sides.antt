@@ -1,30 +1,26 @@
 -- One term of an equation: the blocks A·L·Q2 and Q1·R·B for each oil index, and what its rows of the system gain from them.
--- Rests on matrix's blocks, rows' PlusRows and Products.
-use mathlib.Core.Path.{_≡_, sym, ap, _∙_}
+-- Rests on matrix's blocks, rows' PlusRows and tables' Sums.
+use mathlib.Core.Path.{_≡_, ap, _∙_}
 use mathlib.Core.List.{List}
 use Prim.Native.Nat.{ℕ, _+_, _*_, _/_, _%_, _<_, _≤_}
 use native.Mathlib.Nat.{mul-pos, mul-le-mul, le-mul-of-pos-right, div-lt-iff-lt-mul, mod-lt, zero-add as zero-plus}
-use native.Mathlib.Decide.{decLt}
 use native.Mathlib.Omega.{arith}
-use borrow.Author.Tests.{lt-ltb, le-ltb}
 use lib.Arith.{digits-lt}
 use lib.Dec.{ltb}
 use lib.ListN.{length, getD}
 use Rattle.ground.specs.Pick.{pick}
 use Rattle.ground.specs.Place.{row-fits}
 use Rattle.field.specs.Field.{add, mul}
-use Rattle.field.specs.Laws.{add-zero, one-mul}
+use Rattle.field.specs.Laws.{one-mul}
 use Rattle.rows.specs.Zero.{zeros}
 use Rattle.rows.specs.Plus.{Plus, plus-cong, plus-then}
 use Rattle.rows.specs.PlusRows.{PlusRows, rows-plus}
 use Rattle.rows.specs.Tile.{tile}
-use Rattle.matrix.specs.Matrix.{Matrix, mulM, scaleM, addM}
-use Rattle.matrix.specs.Same.{same-refl, same-trans, same-mul, mulM-lt, same-scale}
+use Rattle.matrix.specs.Matrix.{Matrix, mulM, scaleM}
+use Rattle.matrix.specs.Same.{same-refl, same-trans, same-mul, mulM-lt}
 use Rattle.matrix.specs.Block.{view, block, block-same, holds, cell, cell-at, getD-block}
 use Rattle.scheme.specs.Maps.{sumM}
-use Rattle.terms.specs.Reading.{cell-entry}
-use Rattle.terms.specs.Adding.{sum-step}
-use Rattle.system.specs.Products.{HasRows, zero-rows-from}
+use Rattle.tables.specs.Sums.{HasRows, zero-rows-from}
 use Rattle.matrix.specs.BlockRows.{widened}
 
 -- ---- blocks of a table, combined by coefficients q

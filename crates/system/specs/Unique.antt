@@ -1,5 +1,5 @@
--- No second outcome meets a contract of this crate: every lent buffer is fixed by what went in. Of what a term's own buffers hold (`load_blocks`,
--- `fill_sides`) the part that the contract speaks of is fixed, and nothing else of them is read. Rests on rows' PlusRows, Filled and Equation.
+-- No second outcome meets a contract of this crate: every lent buffer is fixed by what went in. Of what a term's own buffers hold (`fill_sides`)
+-- the part that the contract speaks of is fixed, and nothing else of them is read. Rests on rows' PlusRows, Filled and Equation.
 use mathlib.Core.Path.{_≡_, sym, ap, _∙_}
 use mathlib.Core.List.{List}
 use Prim.Native.Nat.{ℕ, _+_, _*_, _/_, _%_, _<_, _≤_}
@@ -17,8 +17,7 @@ use Rattle.matrix.specs.Matrix.{Matrix}
 use Rattle.matrix.specs.Block.{block}
 use Rattle.matrix.specs.RingElements.{coefficient}
 use Rattle.scheme.specs.Streams.{groupOf}
-use Rattle.tables.specs.Gains.{blocksRow}
-use Rattle.system.specs.Products.{HasRows, productsRow, transposedGain, timesGain, rowsOf, leftGain}
+use Rattle.system.specs.Products.{productsRow}
 use Rattle.system.specs.Filled.{Stacked, LeftHolds, RightHolds, SumsHold}
 use Rattle.system.specs.Places.{table-sizes}
 use Rattle.system.specs.Sides.{Sides, combinedFrom, outerRow, rowGain}
@@ -91,18 +90,6 @@ pub unique-add-products : (d stream src : List ℕ) (at n number l a count : ℕ
     → PlusRows d at (a * l) n (productsRow l stream number count src n) t → PlusRows d at (a * l) n (productsRow l stream number count src n) u → t ≡ u
 unique-add-products d stream src at n number l a count = rows-unique
 
-pub unique-add-transposed : (d scalars src : List ℕ) (at n place m count : ℕ) {t u : List ℕ}
-    → PlusRows d at m n (transposedGain scalars place m count (rowsOf n src)) t → PlusRows d at m n (transposedGain scalars place m count (rowsOf n src)) u → t ≡ u
-unique-add-transposed d scalars src at n place m count = rows-unique
-
-pub unique-add-times : (d scalars src : List ℕ) (at n m count : ℕ) {t u : List ℕ}
-    → PlusRows d at m n (timesGain (rowsOf count scalars) count (rowsOf n src)) t → PlusRows d at m n (timesGain (rowsOf count scalars) count (rowsOf n src)) u → t ≡ u
-unique-add-times d scalars src at n m count = rows-unique
-
-pub unique-add-left : (d x stream : List ℕ) (at l v number count : ℕ) {t u : List ℕ}
-    → PlusRows d at (l * l) (count * l) (leftGain l v x stream number count) t → PlusRows d at (l * l) (count * l) (leftGain l v x stream number count) u → t ≡ u
-unique-add-left d x stream at l v number count = rows-unique
-
 pub unique-add-outer : (d sides m : List ℕ) (l count : ℕ) {t u : List ℕ}
     → PlusRows d 0 (count * l * l) (l * 5) (outerRow l sides m) t → PlusRows d 0 (count * l * l) (l * 5) (outerRow l sides m) u → t ≡ u
 unique-add-outer d sides m l count = rows-unique
@@ -117,11 +104,6 @@ pub unique-combined : (table abq : List ℕ) (l w row column down across group :
     → r ≡ block l (combinedFrom l (coefficient l (groupOf l abq group)) table w row column down across)
     → r′ ≡ block l (combinedFrom l (coefficient l (groupOf l abq group)) table w row column down across) → r ≡ r′
 unique-combined table abq l w row column down across group = unique-equation
-
-pub unique-load-blocks : (stream : List ℕ) (l number count : ℕ) {t u : List ℕ}
-    → HasRows l (count * l) (blocksRow l stream number) t → HasRows l (count * l) (blocksRow l stream number) u
-    → (r z : ℕ) → r < l → z < count * l → getD t (r * (count * l) + z) 0 ≡ getD u (r * (count * l) + z) 0
-unique-load-blocks stream l number count p q r z hr hz = p .at r z hr hz ∙ sym (q .at r z hr hz)
 
 pub unique-fill-sides : (l count : ℕ) (M : ℕ → Matrix) {t u : List ℕ} → Sides l count M t → Sides l count M u
     → (k r c : ℕ) → k < count → r < l → c < l → getD t (k * 25 + (r * 5 + c)) 0 ≡ getD u (k * 25 + (r * 5 + c)) 0

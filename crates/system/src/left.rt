@@ -8,8 +8,6 @@ ghost use Rattle.sets.specs.Bounds.{Bounds};
 ghost use Rattle.sets.specs.Sets.{publicBytes};
 ghost use Rattle.system.specs.LeftRight.{leftRow};
 ghost use Rattle.system.specs.Filled.{LeftHolds};
-use super::products::add_left;
-use super::products::add_times;
 use sets::Set;
 
 // Room for l·l rows of v·l bytes.
@@ -24,12 +22,13 @@ fn add_left_index(left: &mut [u8], at: usize, set: Set, i: usize, public: &[u8],
     let v = set.v;
     let o = set.o;
     let l = set.l;
+    let square = l * l;
     let mut z = [0u8; SUMS];
     let p11 = tables::p11_number(set, i, 0);
     let p12 = tables::p12_number(set, i, 0);
-    add_left(&mut z, 0, l, v, x, public, p11, v);
-    add_left(left, at, l, v, x, public, p12, o);
-    add_times(left, at, o * l, l * l, &z, v * l, t);
+    tables::add_left(&mut z, 0, l, v, x, square, public, p11, v);
+    tables::add_left(left, at, l, v, x, square, public, p12, o);
+    tables::add_times(left, at, o * l, square, &z, v * l, t);
 }
 
 pub fn fill_left(left: &mut [u8], set: Set, public: &[u8], x: &[u8], t: &[u8])

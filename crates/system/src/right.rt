@@ -8,11 +8,10 @@ ghost use Rattle.rows.specs.PlusRows.{PlusRows};
 ghost use Rattle.words.specs.Multiples.{Multiples};
 ghost use Rattle.sets.specs.Bounds.{Bounds};
 ghost use Rattle.sets.specs.Sets.{publicBytes};
-ghost use Rattle.system.specs.Products.{HasRows};
+ghost use Rattle.tables.specs.Sums.{HasRows};
 ghost use Rattle.system.specs.LeftRight.{yRow, rightRow, sumsRow};
 ghost use Rattle.system.specs.Filled.{RightHolds, SumsHold};
 use super::products::add_products;
-use super::products::add_transposed;
 use sets::Set;
 
 // Room for v·l rows of l·l bytes.
@@ -59,7 +58,7 @@ fn add_right_index(
     let l = set.l;
     let p21 = tables::p21_number(set, i, 0);
     add_products(right, at, l * l, public, p21, l, o, v, multiples);
-    add_transposed(right, at, l * l, t, 0, o * l, v * l, y);
+    tables::add_transposed(right, at, l * l, t, 0, o * l, v * l, y);
 }
 
 // Both tables, by the multiples of the rows of x.
@@ -86,7 +85,7 @@ fn fill_by_multiples(
     let mut i = 0;
     while i < o {
         load_products(&mut y, set, i, public, multiples);
-        add_transposed(
+        tables::add_transposed(
             sums,
             i * (l * l * (l * l)),
             l * l,

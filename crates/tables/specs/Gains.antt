@@ -6,14 +6,12 @@ use Prim.Native.Nat.{ℕ, _+_, _*_, _/_, _%_, _<_, _≤_}
 use native.Mathlib.Nat.{mul-le-mul-right}
 use native.Mathlib.Omega.{arith}
 use lib.ListN.{getD}
-use Rattle.algebra.specs.Sum.{sum, sum-cong}
+use Rattle.algebra.specs.Sum.{sum}
 use Rattle.field.specs.Field.{add, mul}
-use Rattle.field.specs.FieldRing.{field-ring}
 use Rattle.packing.specs.Packing.{element}
 use Rattle.scheme.specs.Streams.{blockOf}
-use Rattle.rows.specs.Plus.{Plus, plus-cong, plus-sum-none, plus-sum-next}
+use Rattle.rows.specs.Plus.{Plus, plus-cong}
 use Rattle.rows.specs.PlusRows.{PlusRows, rows-none, rows-next, rows-plus}
-use Rattle.rows.specs.Combine.{combination}
 
 -- row r of the blocks number, number + 1, .. , side by side: column z
 unfoldable pub blocksRow : (l : ℕ) (stream : List ℕ) (number r : ℕ) → ℕ → ℕ
@@ -66,33 +64,3 @@ pub rowing-end : {d t : List ℕ} {at : ℕ} {stream : List ℕ} {number l r cou
 unfolding blocksRow
 rowing-end {d} {t} {at} {stream} {number} {l} {r} p h =
     subst (λ n. Plus d at (n * l) (λ z. blockOf l stream (number + z / l) r (z % l)) t) (omega (arith, p .upto)) (rows-plus (p .so-far))
-
--- ---- a loop that adds one block's product after the other
-
-pub record Multiplying (d : List ℕ) (at n : ℕ) (stream : List ℕ) (number l r count : ℕ) (src : List ℕ) (first k : ℕ) (t : List ℕ) : Type 0 where
-  pub upto : k ≤ count
-  pub so-far : Plus d at n (productRow l stream number r k src n first) t
-
-pub multiplying-none : {d : List ℕ} {at n : ℕ} {stream : List ℕ} {number l r count : ℕ} {src : List ℕ} {first : ℕ}
-    → Multiplying d at n stream number l r count src first 0 d
-unfolding productRow
-multiplying-none {d} {at} {n} {stream} {number} {l} {r} {count} {src} {first} =
-    record { upto = omega arith; so-far = plus-sum-none (productTerm l stream number r src n first) }
-
-pub multiplying-next : {d t u : List ℕ} {at n : ℕ} {stream : List ℕ} {number l r count : ℕ} {src : List ℕ} {first k from row : ℕ}
-    → Multiplying d at n stream number l r count src first k t → k < count → from ≡ rowStart l (number + k) r → row ≡ (first + k) * l
-    → Plus t at n (combination (λ x. element stream (from + x)) src n row l) u → Multiplying d at n stream number l r count src first (k + 1) u
-unfolding productRow
-multiplying-next {d} {t} {u} {at} {n} {stream} {number} {l} {r} {count} {src} {first} {k} {from} {row} p h from-is row-is q = record {
-  upto = omega arith;
-  so-far = plus-sum-next (productTerm l stream number r src n first) (p .so-far) (plus-cong (λ z hz. sum-cong field-ring l (λ x hx. term z x)) q);
-}
-  where
-    term : (z x : ℕ) → mul (element stream (from + x)) (getD src ((row + x) * n + z) 0)
-        ≡ mul (blockOf l stream (number + k) r x) (getD src (((first + k) * l + x) * n + z) 0)
-    term z x = rw (from-is, row-is, row-element l stream (number + k) r x)
-
-pub multiplying-end : {d t : List ℕ} {at n : ℕ} {stream : List ℕ} {number l r count : ℕ} {src : List ℕ} {first k : ℕ}
-    → Multiplying d at n stream number l r count src first k t → count ≤ k → Plus d at n (productRow l stream number r count src n first) t
-multiplying-end {d} {t} {at} {n} {stream} {number} {l} {r} {src = src} {first = first} p h =
-    subst (λ m. Plus d at n (productRow l stream number r m src n first) t) (omega (arith, p .upto)) (p .so-far)

@@ -7,8 +7,8 @@ use native.Mathlib.Nat.{mul-le-mul, mul-le-mul-left, mul-le-mul-right}
 use native.Mathlib.Omega.{arith}
 use lib.ListN.{length, getD}
 use Rattle.ground.specs.Place.{row-fits}
-use Rattle.algebra.specs.Sum.{sum, sum-cong, sum-swap}
-use Rattle.field.specs.Field.{add, mul}
+use Rattle.algebra.specs.Sum.{sum-cong, sum-swap}
+use Rattle.field.specs.Field.{mul}
 use Rattle.field.specs.FieldRing.{field-ring}
 use Rattle.packing.specs.Packing.{element}
 use Rattle.rows.specs.Plus.{Plus, plus-cong}
@@ -18,7 +18,7 @@ use Rattle.words.specs.Multiples.{Multiples}
 use Rattle.words.specs.Lookups.{blockLookups, blockSum, block-lookups}
 use Rattle.words.specs.Spread.{Spread}
 use Rattle.scheme.specs.Streams.{blockOf}
-use Rattle.tables.specs.Gains.{productRow, productTerm}
+use Rattle.tables.specs.Gains.{productRow}
 
 -- the blocks number, .. , number + count - 1 stand in flat from `place` on, element after element
 pub record Laid (l count : ℕ) (stream : List ℕ) (number place : ℕ) (flat : List ℕ) : Type 0 where

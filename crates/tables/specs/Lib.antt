@@ -4,6 +4,7 @@ pub mod Table
 pub mod Gains
 pub mod Laid
 pub mod Entries
+pub mod Sums
 pub mod Turns
 pub mod Unpacked
 pub mod RingRows

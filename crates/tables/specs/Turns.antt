@@ -28,19 +28,6 @@ block-turn l number {count} {k} {r} hk hr =
       row = row-within-stream l number hk hr;
     }
 
--- block row first + k of a table with rows of n bytes
-pub record TableTurn (l n first count k : ℕ) : Type 0 where
-  pub number : first + k + 1 ≤ (first + count) * l * n
-  pub row : (first + k) * l + l ≤ (first + count) * l * n
-  pub table : ((first + k) * l + l) * n ≤ (first + count) * l * n
-
-pub table-turn : (l n first : ℕ) {count k : ℕ} → k < count → 0 < l → 0 < n → TableTurn l n first count k
-table-turn l n first {count} {k} hk hl hn =
-    let whole : first + k + 1 ≤ first + count = omega arith in
-    let table : ((first + k) * l + l) * n ≤ (first + count) * l * n = omega (arith, mul-le-mul-right n (mul-le-mul-right l whole)) in
-    let row : (first + k) * l + l ≤ (first + count) * l * n = omega (arith, le-mul-of-pos-right ((first + k) * l + l) hn) in
-    record { number = omega (arith, le-mul-of-pos-right (first + k + 1) hl); row = row; table = table }
-
 -- group first + k of l coefficients
 pub record GroupTurn (l first count k : ℕ) : Type 0 where
   pub number : first + k + 1 ≤ (first + count) * l

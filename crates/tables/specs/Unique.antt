@@ -1,9 +1,10 @@
--- No second outcome meets a contract of this crate: every lent buffer is fixed by what went in.
--- Rests on rows' Plus, on Filled and on Unpacked.
+-- No second outcome meets a contract of this crate: every lent buffer is fixed by what went in. Of what `load_blocks` leaves, the blocks' rows
+-- are fixed, and nothing else is read. Rests on rows' Plus and PlusRows, on Filled and on Unpacked.
 use mathlib.Core.Path.{_≡_, refl, sym, _∙_}
 use mathlib.Core.List.{List}
-use Prim.Native.Nat.{ℕ, _+_, _*_}
+use Prim.Native.Nat.{ℕ, _+_, _*_, _<_}
 use native.Mathlib.Omega.{arith}
+use lib.ListN.{getD}
 use Rattle.sets.specs.declared.Set.{Set}
 use Rattle.matrix.specs.RingElements.{powerS}
 use Rattle.scheme.specs.Streams.{T12}
@@ -15,6 +16,7 @@ use Rattle.tables.specs.Numbers.{Starts}
 use Rattle.tables.specs.Table.{Filled, filled-unique}
 use Rattle.tables.specs.Gains.{blocksRow, productRow}
 use Rattle.tables.specs.Unpacked.{Unpacked, unpacked-unique, listOf}
+use Rattle.tables.specs.Sums.{HasRows, transposedGain, timesGain, rowsOf, leftGain}
 
 pub unique-number-of-row : {blocks number count n m : ℕ} → Starts blocks number count n → Starts blocks number count m → n ≡ m
 unique-number-of-row a b = a .is ∙ sym (b .is)
@@ -22,10 +24,6 @@ unique-number-of-row a b = a .is ∙ sym (b .is)
 pub unique-add-block-row : (d stream : List ℕ) (at number l r count : ℕ) {t u : List ℕ} → Plus d at (count * l) (blocksRow l stream number r) t
     → Plus d at (count * l) (blocksRow l stream number r) u → t ≡ u
 unique-add-block-row d stream at number l r count = plus-unique
-
-pub unique-add-product-row : (d stream src : List ℕ) (at n number l r count first : ℕ) {t u : List ℕ} → Plus d at n (productRow l stream number r count src n first) t
-    → Plus d at n (productRow l stream number r count src n first) u → t ≡ u
-unique-add-product-row d stream src at n number l r count first = plus-unique
 
 -- for a table whose multiples are looked up
 pub unique-add-blocks : (d stream src multiples : List ℕ) (at n number l count first : ℕ) {t u : List ℕ} → Multiples n ((first + count) * l) src multiples
@@ -46,3 +44,22 @@ unique-private-table d private set = filled-unique refl
 pub unique-power-table : (d list : List ℕ) (l n : ℕ) {t u : List ℕ} → Filled l (l * l) n l (λ k b. powerTimes l b (listOf l list k)) d t
     → Filled l (l * l) n l (λ k b. powerTimes l b (listOf l list k)) d u → t ≡ u
 unique-power-table d list l n = filled-unique refl
+
+-- ---- products of tables
+
+pub unique-add-transposed : (d scalars src : List ℕ) (at n place m count : ℕ) {t u : List ℕ}
+    → PlusRows d at m n (transposedGain scalars place m count (rowsOf n src)) t → PlusRows d at m n (transposedGain scalars place m count (rowsOf n src)) u → t ≡ u
+unique-add-transposed d scalars src at n place m count = rows-unique
+
+pub unique-add-times : (d scalars src : List ℕ) (at n m count : ℕ) {t u : List ℕ}
+    → PlusRows d at m n (timesGain (rowsOf count scalars) count (rowsOf n src)) t → PlusRows d at m n (timesGain (rowsOf count scalars) count (rowsOf n src)) u → t ≡ u
+unique-add-times d scalars src at n m count = rows-unique
+
+pub unique-add-left : (d x stream : List ℕ) (at l v m number count : ℕ) {t u : List ℕ}
+    → PlusRows d at m (count * l) (leftGain l v x m stream number count) t → PlusRows d at m (count * l) (leftGain l v x m stream number count) u → t ≡ u
+unique-add-left d x stream at l v m number count = rows-unique
+
+pub unique-load-blocks : (stream : List ℕ) (l number count : ℕ) {t u : List ℕ}
+    → HasRows l (count * l) (blocksRow l stream number) t → HasRows l (count * l) (blocksRow l stream number) u
+    → (r z : ℕ) → r < l → z < count * l → getD t (r * (count * l) + z) 0 ≡ getD u (r * (count * l) + z) 0
+unique-load-blocks stream l number count p q r z hr hz = p .at r z hr hz ∙ sym (q .at r z hr hz)

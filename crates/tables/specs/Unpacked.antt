@@ -9,7 +9,6 @@ use native.Mathlib.Omega.{arith}
 use lib.ListN.{length, getD}
 use lib.Seq.{ext-getD}
 use Rattle.packing.specs.Packing.{element}
-use Rattle.packing.specs.Laws.{element-lt}
 use Rattle.matrix.specs.Matrix.{Matrix}
 use Rattle.matrix.specs.Same.{Same}
 use Rattle.scheme.specs.Streams.{blockOf}
@@ -37,10 +36,6 @@ pub unpacked-unique : {stream : List ℕ} {n : ℕ} {before t u : List ℕ} → 
 unpacked-unique {n = n} {t = t} {u = u} p q =
     ext-getD 0 t u (p .long ∙ sym (q .long))
     (λ e h. elim (decLt e n) [ yes l ↦ p .elements e l ∙ sym (q .elements e l) | no l ↦ p .beyond e (omega arith) ∙ sym (q .beyond e (omega arith)) ])
-
--- the buffer holds elements
-pub unpacked-lt : {stream : List ℕ} {n : ℕ} {before after : List ℕ} → Unpacked stream n before after → (e : ℕ) → getD after e 0 < 16
-unpacked-lt {stream} {n} p e = elim (decLt e n) [ yes l ↦ rw (p .elements e l) (element-lt stream e) | no l ↦ rw (p .beyond e (omega arith)) (omega arith) ]
 
 -- matrix k of a list of l by l matrices, an element to a byte, each row by row
 unfoldable pub listOf : (l : ℕ) (s : List ℕ) (k : ℕ) → Matrix

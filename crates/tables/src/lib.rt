@@ -1,9 +1,10 @@
 // Tables of bytes that key generation, the verdict and signing share: the powers of S, the private matrix T12, the powers of S times a list of matrices,
-// and rows of products of a stream's blocks with such a table. A table with rows of w bytes holds block (j, k) at rows j·l .. and columns k·l .. .
+// rows of products of a stream's blocks with such a table, and products of whole tables. A table with rows of w bytes holds block (j, k) at rows j·l .. and columns k·l .. .
 mod numbers;
 mod powers;
 mod private;
 mod products;
+mod sums;
 
 pub use numbers::p11_number;
 pub use numbers::p12_number;
@@ -13,11 +14,14 @@ pub use powers::power_table;
 pub use powers::powers_of_s;
 pub use private::private_table;
 pub use products::add_blocks;
+pub use sums::add_left;
+pub use sums::add_times;
+pub use sums::add_transposed;
 ghost use mathlib.Core.Path.{_≡_};
-ghost use Prim.Native.Nat.{ℕ, _+_, _*_, _^_, _<_, _≤_};
+ghost use Prim.Native.Nat.{_+_, _*_, _^_, _<_, _≤_};
 ghost use lib.ListN.{length};
 ghost use Rattle.rows.specs.Plus.{Plus};
-ghost use Rattle.tables.specs.Gains.{rowStart, blocksRow, productRow};
+ghost use Rattle.tables.specs.Gains.{rowStart, blocksRow};
 ghost use Rattle.tables.specs.Unpacked.{Unpacked};
 
 // How many bytes a caller's table takes for the largest set: the powers of S, and T12 (specs/Rooms.antt).
@@ -50,31 +54,6 @@ pub fn add_block_row(
     while k < count {
         let from = row_start(l, number + k, r);
         rows::add_elements(dst, at + k * l, stream, from, l);
-        k += 1;
-    }
-}
-
-// dst[at..at + n] gains row r of the sum over k < count of block number + k of the stream times block row first + k of the table src, in rows of n bytes.
-pub fn add_product_row(
-    dst: &mut [u8],
-    at: usize,
-    n: usize,
-    stream: &[u8],
-    number: usize,
-    l: usize,
-    r: usize,
-    count: usize,
-    src: &[u8],
-    first: usize,
-)
-    requires { ⌜ (at + n ≤ length (now dst)) × (r < l) × ((number + count) * (l * l) ≤ 2 * length (now stream)) × ((first + count) * l * n ≤ length (now src)) × (0 < n) ⌝ }
-    ensures { λ _. ⌜ Plus (now (dst .entry)) at n (productRow l (now (stream .entry)) number r count (now (src .entry)) n first) (now (dst .exit)) ⌝ }
-{
-    let mut k = 0;
-    while k < count {
-        let scalars = row_start(l, number + k, r);
-        let row = (first + k) * l;
-        rows::add_rows(dst, at, n, stream, scalars, l, src, row);
         k += 1;
     }
 }

@@ -7,12 +7,10 @@ use Prim.Native.Nat.{ℕ, _+_, _*_, _<_, _≤_}
 use native.Mathlib.Omega.{arith}
 use borrow.Author.Tests.{eq-eqb, ne-eqb}
 use lib.Dec.{eqb}
-use lib.ListN.{length}
 use Rattle.ground.specs.Tests.{every, every-cong}
 use Rattle.packing.specs.Packing.{element}
 use Rattle.sets.specs.declared.Set.{Set}
 use Rattle.sets.specs.Bounds.{Bounds}
-use Rattle.matrix.specs.Matrix.{Matrix}
 use Rattle.matrix.specs.Block.{view, block, holds}
 use Rattle.scheme.specs.Streams.{blockOf, targetOf, signatureOf, P22}
 use Rattle.scheme.specs.Maps.{meets}

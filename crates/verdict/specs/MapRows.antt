@@ -2,7 +2,7 @@
 -- Rests on tables' rows of products and scheme's four parts.
 use mathlib.Core.Path.{_≡_, sym, ap, ap₂, subst, _∙_}
 use mathlib.Core.List.{List}
-use Prim.Native.Nat.{ℕ, _+_, _-_, _*_, _<_, _≤_}
+use Prim.Native.Nat.{ℕ, _+_, _-_, _*_, _<_}
 use native.Mathlib.Nat.{zero-add as zero-plus}
 use native.Mathlib.Omega.{arith}
 use lib.ListN.{getD}

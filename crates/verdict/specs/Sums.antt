@@ -9,7 +9,7 @@ use Rattle.sets.specs.declared.Set.{Set}
 use Rattle.sets.specs.Sets.{variables}
 use Rattle.matrix.specs.Matrix.{Matrix}
 use Rattle.matrix.specs.Same.{same-refl, same-trans, same-sum, same-mul}
-use Rattle.scheme.specs.Streams.{blockOf, P22, signatureOf}
+use Rattle.scheme.specs.Streams.{P22, signatureOf}
 use Rattle.scheme.specs.Maps.{PWith}
 use Rattle.scheme.specs.Regroup.{powerTimes}
 use Rattle.rows.specs.PlusRows.{PlusRows}

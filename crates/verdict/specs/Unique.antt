@@ -2,7 +2,7 @@
 -- Rests on ground's `unique-equation`, and on tables' blocks.
 use mathlib.Core.Path.{_≡_, sym, ap, subst, _∙_}
 use mathlib.Core.List.{List}
-use Prim.Native.Nat.{ℕ, _+_, _*_, _/_, _%_, _<_}
+use Prim.Native.Nat.{ℕ, _*_, _/_, _%_, _<_}
 use native.Mathlib.Nat.{mul-pos, div-add-mod', div-lt-iff-lt-mul, mod-lt}
 use native.Mathlib.Omega.{arith}
 use lib.ListN.{getD}
@@ -13,8 +13,7 @@ use Rattle.sets.specs.Sets.{variables}
 use Rattle.sets.specs.Bounds.{Bounds}
 use Rattle.matrix.specs.Matrix.{Matrix}
 use Rattle.matrix.specs.Same.{Same}
-use Rattle.scheme.specs.Streams.{P22, signatureOf}
-use Rattle.scheme.specs.Maps.{PWith}
+use Rattle.scheme.specs.Streams.{signatureOf}
 use Rattle.scheme.specs.Regroup.{powerSums}
 use Rattle.scheme.specs.Verdict.{verdictRefusals, accepted}
 use Rattle.rows.specs.Tile.{tile, entry-tile}

@@ -2,12 +2,12 @@
 -- Rests on packing's elements.
 use mathlib.Core.Path.{_≡_, refl, ap, subst, _∙_}
 use mathlib.Core.List.{List}
-use Prim.Native.Nat.{ℕ, _+_, _*_, _/_, _%_, _<_, _≤_}
+use Prim.Native.Nat.{ℕ, _+_, _*_, _<_, _≤_}
 use native.Mathlib.Nat.{not-suc-le-zero}
 use native.Mathlib.Decide.{decLt}
 use native.Mathlib.Omega.{arith}
 use lib.ListN.{length, getD, set, length-set}
-use lib.Seq.{getD-set-same, getD-set-other, ext-getD}
+use lib.Seq.{getD-set-same, getD-set-other}
 use Rattle.packing.specs.Packing.{element}
 
 -- after is before with the elements of n bytes, from byte `from` on, in its first 2·n places

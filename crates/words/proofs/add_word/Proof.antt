@@ -1,7 +1,6 @@
 -- `words::add_word` meets its contract. The loop's invariant: the first c elements are added, and the elements of `rest` are those behind them.
 use mathlib.Core.Path.{_≡_, sym, ap, _∙_}
-use Prim.Native.Nat.{ℕ, suc, _+_, _*_, _-_, _<_, _≤_}
-use lib.ListN.{length, getD}
+use Prim.Native.Nat.{ℕ, suc, _+_, _-_, _≤_}
 use Rattle.rows.specs.Plus.{Plus, plus-none, plus-next, plus-end}
 use Rattle.field.specs.Field.{add}
 use Rattle.words.specs.Words.{nibble, nibble-first, nibble-next}

@@ -1,5 +1,4 @@
 -- `words::highest` meets its contract: the code mirrors the definition.
-use borrow.Author.Needs.{needs}
 use native.Mathlib.Omega.{arith}
 use Rattle.words.specs.Multiples.{highest-8, highest-4, highest-2, highest-1}
 use Rattle.words.proofs.highest.Statement.{statement}

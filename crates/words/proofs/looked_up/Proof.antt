@@ -2,7 +2,7 @@
 use mathlib.Core.Path.{_≡_, sym, ap, _∙_}
 use Prim.Native.Nat.{_+_, _*_, _-_, _<_, _≤_}
 use native.Mathlib.Nat.{lt-of-lt-of-le}
-use lib.ListN.{length, getD}
+use lib.ListN.{length}
 use Rattle.field.specs.Field.{add}
 use Rattle.words.specs.Lookups.{lookups, lookups-none, lookups-next, looked-up-below}
 use borrow.Author.Needs.{needs, scaled-fits}

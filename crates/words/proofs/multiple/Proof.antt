@@ -1,7 +1,6 @@
 -- `words::multiple` meets its contract. The loop's invariant: w is the word of the multiples of the bytes from c on.
 use mathlib.Core.Path.{_≡_, sym, ap, _∙_}
-use Prim.Native.Nat.{_+_, _*_, _-_, _^_, _<_, _≤_}
-use lib.ListN.{length, getD}
+use Prim.Native.Nat.{_^_, _<_, _≤_}
 use Rattle.field.specs.Laws.{mul-lt}
 use Rattle.words.specs.Multiples.{multipleFrom, multiple-none, multiple-next, multiple-end, multiple-room}
 use borrow.Author.Needs.{needs}

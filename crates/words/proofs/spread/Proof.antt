@@ -1,7 +1,7 @@
 -- `words::spread` meets its contract. The loop's invariant: k bytes are spread; the mask keeps the low half, the shift leaves the high one.
 use mathlib.Core.Path.{_≡_, sym, _∙_}
 use Prim.Native.Nat.{_+_, _*_, _-_, _/_, _≤_}
-use lib.ListN.{length, getD, length-set}
+use lib.ListN.{getD, length-set}
 use lib.Bits.{bitAnd, and-mask}
 use Rattle.packing.specs.Packing.{element}
 use Rattle.packing.specs.Laws.{element-low, element-high}

@@ -1,6 +1,6 @@
 -- `matrix::arithmetic::product` meets its contract. The invariant: the first r rows have gained theirs. Rests on BlockRows.
-use mathlib.Core.Path.{_≡_, _∙_}
-use Prim.Native.Nat.{_+_, _*_, _-_, _<_, _≤_}
+use mathlib.Core.Path.{_≡_}
+use Prim.Native.Nat.{_-_, _≤_}
 use lib.ListN.{length}
 use Rattle.rows.specs.Zero.{zeros, length-zeros}
 use Rattle.matrix.specs.Matrix.{mulM}

@@ -1,9 +1,9 @@
--- `system::blocks::add_tile` meets its contract. The invariant: the first r rows have gained. Rests on BlockRows and Products.
-use Prim.Native.Nat.{_+_, _*_, _-_, _<_, _≤_}
+-- `system::blocks::add_tile` meets its contract. The invariant: the first r rows have gained. Rests on BlockRows and tables' Sums.
+use Prim.Native.Nat.{_-_}
 use lib.ListN.{length}
 use Rattle.rows.specs.Tile.{tile}
 use Rattle.matrix.specs.Matrix.{scaleM}
-use Rattle.system.specs.Products.{Adding, adding-none, adding-next-at, adding-end}
+use Rattle.tables.specs.Sums.{Adding, adding-none, adding-next-at, adding-end}
 use Rattle.matrix.specs.BlockRows.{blockRow}
 use Rattle.system.specs.BlockRows.{tile-row, RowFits, row-within}
 use borrow.Author.Needs.{needs}

@@ -1,13 +1,13 @@
--- `system::blocks::combined` meets its contract. The invariant: the rows of the block have gained the first x terms. Rests on BlockRows, Products and Sides.
-use mathlib.Core.Path.{_≡_, _∙_}
-use Prim.Native.Nat.{_+_, _*_, _-_, _<_, _≤_}
+-- `system::blocks::combined` meets its contract. The invariant: the rows of the block have gained the first x terms. Rests on BlockRows, tables' Sums and Sides.
+use mathlib.Core.Path.{_≡_}
+use Prim.Native.Nat.{_+_, _*_, _-_}
 use lib.ListN.{length}
 use Rattle.rows.specs.Zero.{zeros, length-zeros}
 use Rattle.rows.specs.Tile.{tile}
 use Rattle.matrix.specs.Matrix.{scaleM}
 use Rattle.matrix.specs.RingElements.{coefficient}
 use Rattle.scheme.specs.Streams.{groupOf}
-use Rattle.system.specs.Products.{Summing, summing-none, summing-next, summing-end}
+use Rattle.tables.specs.Sums.{Summing, summing-none, summing-next, summing-end}
 use Rattle.matrix.specs.BlockRows.{blockRow}
 use Rattle.system.specs.BlockRows.{block-summed, tile-factor}
 use Rattle.system.specs.Sides.{combinedFrom, TileFits, tile-fits}

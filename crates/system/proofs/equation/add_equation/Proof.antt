@@ -1,11 +1,10 @@
--- `system::equation::add_equation` meets its contract. The invariant: the products of the first alpha terms are added up. Rests on Products and Equation.
+-- `system::equation::add_equation` meets its contract. The invariant: the products of the first alpha terms are added up. Rests on tables' Sums and Equation.
 use mathlib.Core.Path.{_≡_}
-use Prim.Native.Nat.{_+_, _*_, _-_, _<_, _≤_}
+use Prim.Native.Nat.{_*_, _-_, _<_, _≤_}
 use lib.ListN.{length}
-use native.Mathlib.Nat.{mul-le-mul}
 use Rattle.rows.specs.Zero.{zeros, length-zeros, zero-at}
 use Rattle.sets.specs.Sets.{terms}
-use Rattle.system.specs.Products.{Summing, summing-none, summing-next, summing-end, zero-rows}
+use Rattle.tables.specs.Sums.{Summing, summing-none, summing-next, summing-end, zero-rows}
 use Rattle.system.specs.Places.{table-sizes}
 use Rattle.system.specs.Equation.{leftTerm, rightTerm, equation-rows, products-fit}
 use borrow.Author.Needs.{needs}

@@ -5,7 +5,7 @@ use lib.ListN.{length}
 use lib.Arith.{digits-lt}
 use Rattle.matrix.specs.Block.{length-block}
 use Rattle.terms.specs.Terms.{equationFrom}
-use Rattle.system.specs.Products.{Adding, adding-none, adding-next, adding-end}
+use Rattle.tables.specs.Sums.{Adding, adding-none, adding-next, adding-end}
 use Rattle.system.specs.Sides.{RowTurn, row-turn}
 use Rattle.system.specs.Places.{table-sizes}
 use Rattle.system.specs.Equation.{targetAdded, target-step, target-rows, target-within}

@@ -1,11 +1,12 @@
--- `system::left::add_left_index` meets its contract: the sums with P12 are added, then those with P11 times T12. Rests on Products and Places.
+-- `system::left::add_left_index` meets its contract: the sums with P12 are added, then those with P11 times T12. Rests on tables' Sums and Places.
 use Prim.Native.Nat.{_*_}
 use lib.ListN.{length}
 use Rattle.rows.specs.Zero.{length-zeros, zero-at}
 use Rattle.rows.specs.PlusRows.{rows-then}
 use Rattle.tables.specs.Rooms.{kept-room}
-use Rattle.system.specs.Products.{left-at, zero-rows, times-loaded}
-use Rattle.system.specs.Places.{PublicPlaces, public-places, number-within, TableSizes, table-sizes}
+use Rattle.tables.specs.Numbers.{PublicPlaces, public-places, number-within}
+use Rattle.tables.specs.Sums.{left-at, zero-rows, times-loaded}
+use Rattle.system.specs.Places.{TableSizes, table-sizes}
 use native.Mathlib.Omega.{arith}
 use borrow.Author.Needs.{needs}
 use Rattle.system.proofs.left.add_left_index.Statement.{statement}
@@ -17,6 +18,9 @@ places s = public-places (s .pre .0 .0) (s .pre .0 .1 .0) (s .pre .1 .0)
 
 sizes : (s : tie.Start) → TableSizes (s .args .set)
 sizes s = table-sizes (s .pre .0 .0)
+
+mul-square : tie.Need-mul-square
+mul-square c = omega (arith, sizes (c .before .before .before .before) .ll)
 
 p11-number-requires : tie.Need-p11-number-requires
 p11-number-requires c κs =
@@ -36,7 +40,7 @@ add-left-requires c κs =
     let s = c .before .before .before .before .before .before .before in
     let set = s .args .set in (
       (omega (arith, sizes s .llvl, length-zeros 4800), (s .pre .1 .1 .0, number-within (set .v * set .v) (set .l * set .l) (c .before .before .p11-number .ensures .is) (places s .p11))),
-      (sizes s .lvl, (sizes s .positive-l, s .pre .0 .0 .limits .l-most)),
+      (sizes s .lvl, sizes s .positive-l),
     )
 
 add-left-requires-2 : tie.Need-add-left-requires-2
@@ -44,22 +48,18 @@ add-left-requires-2 c κs =
     let s = c .before .before .before .before .before .before .before .before .before .before in
     let set = s .args .set in (
       (s .pre .0 .1 .1, (s .pre .1 .1 .0, number-within (set .v * set .o) (set .l * set .l) (c .before .before .before .before .p12-number .ensures .is) (places s .p12))),
-      (sizes s .lol, (sizes s .positive-l, s .pre .0 .0 .limits .l-most)),
+      (sizes s .lol, sizes s .positive-l),
     )
 
 mul-add-times : tie.Need-mul-add-times
 mul-add-times c =
     omega (arith, sizes (c .before .before .before .before .before .before .before .before .before .before .before .before .before .before) .ol)
 
-mul-add-times-2 : tie.Need-mul-add-times-2
-mul-add-times-2 c =
-    omega (arith, sizes (c .before .before .before .before .before .before .before .before .before .before .before .before .before .before) .ll)
-
 slice-aggregate-add-times : tie.Need-slice-aggregate-add-times
 slice-aggregate-add-times c = search needs
 
-mul-add-times-3 : tie.Need-mul-add-times-3
-mul-add-times-3 c =
+mul-add-times-2 : tie.Need-mul-add-times-2
+mul-add-times-2 c =
     omega (arith, sizes (c .before .before .before .before .before .before .before .before .before .before .before .before .before .before .before) .vl)
 
 add-times-requires : tie.Need-add-times-requires
@@ -76,23 +76,23 @@ returns : tie.Need-returns
 returns c =
     let a = c .before .before .before .before .before .before .before .before .before .before .before .before .before .before .before .before .before .before .args in
     let set = a .set in
-    let p11 = left-at (set .l) (set .v) (a .x .now) (a .public .now) (set .v) (c .before .before .before .before .before .before .before .before .before .before .before .before .before .p11-number .ensures .is) (c .before .before .before .before .before .before .before .before .before .before .add-left .ensures) in
-    let p12 = left-at (set .l) (set .v) (a .x .now) (a .public .now) (set .o) (c .before .before .before .before .before .before .before .before .before .before .before .before .p12-number .ensures .is) (c .before .before .before .before .before .before .before .add-left2 .ensures) in
+    let p11 = left-at (set .l) (set .v) (a .x .now) (set .l * set .l) (a .public .now) (set .v) (c .before .before .before .before .before .before .before .before .before .before .before .before .before .p11-number .ensures .is) (c .before .before .before .before .before .before .before .before .before .before .add-left .ensures) in
+    let p12 = left-at (set .l) (set .v) (a .x .now) (set .l * set .l) (a .public .now) (set .o) (c .before .before .before .before .before .before .before .before .before .before .before .before .p12-number .ensures .is) (c .before .before .before .before .before .before .before .add-left2 .ensures) in
     rows-then p12 (times-loaded (set .v * set .l) (a .t .now) (c .before .before .add-times .ensures) (zero-rows (zero-at 4800) p11))
 
 pub add-left-index-spec : {M : Type 1} → statement M
 add-left-index-spec =
     tie.close
     (tie.spec
+    mul-square
     p11-number-requires
     p12-number-requires
     slice-aggregate-add-left
     add-left-requires
     add-left-requires-2
     mul-add-times
-    mul-add-times-2
     slice-aggregate-add-times
-    mul-add-times-3
+    mul-add-times-2
     add-times-requires
     same-length
     returns)

@@ -3,8 +3,10 @@ use Prim.Native.Nat.{_*_}
 use lib.ListN.{length}
 use Rattle.rows.specs.PlusRows.{rows-then}
 use Rattle.tables.specs.Rooms.{kept-room}
-use Rattle.system.specs.Products.{products-at, transposed-loaded}
-use Rattle.system.specs.Places.{PublicPlaces, public-places, number-within, TableSizes, table-sizes}
+use Rattle.tables.specs.Sums.{transposed-loaded}
+use Rattle.system.specs.Products.{products-at}
+use Rattle.tables.specs.Numbers.{PublicPlaces, public-places, number-within}
+use Rattle.system.specs.Places.{TableSizes, table-sizes}
 use native.Mathlib.Omega.{arith}
 use borrow.Author.Needs.{needs}
 use Rattle.system.proofs.right.add_right_index.Statement.{statement}

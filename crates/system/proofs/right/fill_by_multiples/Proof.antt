@@ -3,7 +3,8 @@ use mathlib.Core.Path.{_≡_, refl}
 use Prim.Native.Nat.{_+_, _*_, _-_, _≤_}
 use lib.ListN.{length}
 use Rattle.rows.specs.Zero.{length-zeros}
-use Rattle.system.specs.Products.{Stacking, stacking-none, stacking-next, stacking-end, transposed-loaded}
+use Rattle.tables.specs.Sums.{transposed-loaded}
+use Rattle.system.specs.Products.{Stacking, stacking-none, stacking-next, stacking-end}
 use Rattle.system.specs.LeftRight.{rightRow, sumsRow}
 use Rattle.system.specs.Filled.{right-filled, sums-filled}
 use Rattle.system.specs.Places.{TableSizes, table-sizes, stack-fits}

@@ -1,8 +1,10 @@
 -- `system::right::load_products` meets its contract: zeros that gain the sums with P11. Rests on Products and Places.
 use Prim.Native.Nat.{_*_}
 use lib.ListN.{length}
-use Rattle.system.specs.Products.{products-at, zero-rows-from}
-use Rattle.system.specs.Places.{PublicPlaces, public-places, number-within, TableSizes, table-sizes}
+use Rattle.tables.specs.Sums.{zero-rows-from}
+use Rattle.system.specs.Products.{products-at}
+use Rattle.tables.specs.Numbers.{PublicPlaces, public-places, number-within}
+use Rattle.system.specs.Places.{TableSizes, table-sizes}
 use native.Mathlib.Omega.{arith}
 use borrow.Author.Needs.{needs}
 use Rattle.system.proofs.right.load_products.Statement.{statement}

@@ -1,6 +1,6 @@
--- `system::sides::add_outer` meets its contract. The invariant: the first z rows have gained. Rests on Sides and Products.
-use Prim.Native.Nat.{_+_, _*_, _-_, _<_, _≤_}
-use Rattle.system.specs.Products.{Adding, adding-none, adding-next-at, adding-end}
+-- `system::sides::add_outer` meets its contract. The invariant: the first z rows have gained. Rests on Sides and tables' Sums.
+use Prim.Native.Nat.{_*_, _-_, _<_}
+use Rattle.tables.specs.Sums.{Adding, adding-none, adding-next-at, adding-end}
 use Rattle.system.specs.Sides.{outerRow, outer-row, OuterTurn, outer-turn}
 use native.Mathlib.Nat.{le-mul-of-pos-right}
 use borrow.Author.Needs.{needs}

@@ -1,7 +1,7 @@
--- `system::sides::add_rows` meets its contract. The invariant: the first e rows have gained. Rests on Sides and Products.
+-- `system::sides::add_rows` meets its contract. The invariant: the first e rows have gained. Rests on Sides and tables' Sums.
 use Prim.Native.Nat.{_+_, _*_, _-_}
 use native.Mathlib.Nat.{le-mul-of-pos-right, mul-le-mul}
-use Rattle.system.specs.Products.{Adding, adding-none, adding-next, adding-end}
+use Rattle.tables.specs.Sums.{Adding, adding-none, adding-next, adding-end}
 use Rattle.system.specs.Sides.{rowGain, row-widened, RowTurn, row-turn}
 use borrow.Author.Needs.{needs}
 use native.Mathlib.Omega.{arith}

@@ -1,11 +1,11 @@
--- `system::sides::fill_sides` meets its contract. The invariant: the first k blocks are there, and zeros behind them. Rests on Sides and Products.
+-- `system::sides::fill_sides` meets its contract. The invariant: the first k blocks are there, and zeros behind them. Rests on Sides and tables' Sums.
 use mathlib.Core.Path.{ap}
 use Prim.Native.Nat.{ℕ, _+_, _*_, _-_}
 use lib.ListN.{length}
 use Rattle.matrix.specs.Block.{view, length-block}
 use Rattle.matrix.specs.RingElements.{coefficient}
 use Rattle.scheme.specs.Streams.{groupOf}
-use Rattle.system.specs.Products.{Adding, adding-none, adding-next-at, adding-end}
+use Rattle.tables.specs.Sums.{Adding, adding-none, adding-next-at, adding-end}
 use Rattle.system.specs.Sides.{sideOf, sideRow, side-row, sides-filled, TileFits, tile-fits}
 use borrow.Author.Needs.{needs}
 use native.Mathlib.Omega.{arith}

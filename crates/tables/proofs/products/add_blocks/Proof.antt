@@ -1,7 +1,6 @@
 -- `tables::add_blocks` meets its contract. The loop's invariant: for every table whose multiples these are, the first r rows have gained their products (`AddingBlocks`).
-use Prim.Native.Nat.{_+_, _*_, _-_, _<_, _≤_}
+use Prim.Native.Nat.{_+_, _*_, _-_, _≤_}
 use native.Mathlib.Nat.{le-trans, mul-le-mul}
-use lib.ListN.{length}
 use Rattle.ground.specs.Place.{row-fits}
 use Rattle.tables.specs.Laid.{AddingBlocks, adding-none, adding-next, adding-end, row-room}
 use borrow.Author.Needs.{needs}

@@ -1,19 +1,18 @@
--- `system::products::add_transposed` meets its contract. The invariant: the first y rows have gained. Rests on Products.
+-- `tables::sums::add_times` meets its contract. The invariant: the first y rows have gained. Rests on Sums.
 use Prim.Native.Nat.{_+_, _*_, _-_, _≤_}
-use native.Mathlib.Nat.{mul-le-mul-right}
 use lib.Arith.{digits-lt}
 use Rattle.ground.specs.Place.{row-fits}
-use Rattle.system.specs.Products.{Adding, adding-none, adding-next, adding-end, transposedGain, rowsOf, transposed-row}
+use Rattle.tables.specs.Sums.{Adding, adding-none, adding-next, adding-end, timesGain, rowsOf, times-row}
 use borrow.Author.Needs.{needs}
 use native.Mathlib.Omega.{arith}
-use Rattle.system.proofs.products.add_transposed.Statement.{statement}
-use Rattle.system.proofs.products.add_transposed.Tie as tie
+use Rattle.tables.proofs.sums.add_times.Statement.{statement}
+use Rattle.tables.proofs.sums.add_times.Tie as tie
 
 abbrev Inv-loop : tie.InvT-loop
-Inv-loop dst₀ at n scalars place m count src y₀ dst y = Adding dst₀ at m n (transposedGain scalars place m count (rowsOf n src)) y dst
+Inv-loop dst₀ at n m scalars count src y₀ dst y = Adding dst₀ at m n (timesGain (rowsOf count scalars) count (rowsOf n src)) y dst
 
 abbrev μ-loop : tie.MeasureT-loop
-μ-loop dst₀ at n scalars place m count src y₀ dst y = m - y
+μ-loop dst₀ at n m scalars count src y₀ dst y = m - y
 
 abbrev start : tie.In-loop Inv-loop μ-loop → tie.Start Inv-loop μ-loop
 start c = c .before .before .before .before .before
@@ -31,15 +30,13 @@ mul-add-columns c = omega (arith, row (c .before))
 add-add-columns : tie.Need-add-add-columns Inv-loop μ-loop
 add-add-columns c = omega (arith, row (c .before))
 
-add-add-columns-2 : tie.Need-add-add-columns-2 Inv-loop μ-loop
-add-add-columns-2 c =
-    let s = start (c .before) in
-    omega (arith, mul-le-mul-right (s .args .m) (s .pre .1 .1 .1))
+mul-add-columns-2 : tie.Need-mul-add-columns-2 Inv-loop μ-loop
+mul-add-columns-2 c = omega (arith, row-fits (start (c .before) .args .count) (c .before .loop-test .taken))
 
 add-columns-requires : tie.Need-add-columns-requires Inv-loop μ-loop
 add-columns-requires c κs =
     let now = c .before in
-    (omega (arith, row now, now .before .loop .inv .so-far .long), λ x h. omega (arith, digits-lt h (now .loop-test .taken)))
+    (omega (arith, row now, now .before .loop .inv .so-far .long), λ x h. omega (arith, digits-lt (now .loop-test .taken) h))
 
 add-y : tie.Need-add-y Inv-loop μ-loop
 add-y c = search needs
@@ -52,7 +49,7 @@ loop-again c =
     let now = c .before .before .before .before in
     let a = start now .args in
     adding-next (now .before .loop .inv) (now .loop-test .taken)
-    (transposed-row (a .scalars .now) (a .place) (a .m) (a .count) (a .src .now) (now .before .loop .y) (c .before .before .add-columns .ensures))
+    (times-row (a .scalars .now) (a .count) (a .src .now) (now .before .loop .y) (c .before .before .add-columns .ensures))
 
 same-length : tie.Need-same-length Inv-loop μ-loop
 same-length c = search needs
@@ -60,8 +57,8 @@ same-length c = search needs
 returns : tie.Need-returns Inv-loop μ-loop
 returns c = adding-end (c .before .loop .inv) (c .loop-test .left)
 
-pub add-transposed-spec : {M : Type 1} → statement M
-add-transposed-spec =
+pub add-times-spec : {M : Type 1} → statement M
+add-times-spec =
     tie.close
     (tie.spec
     Inv-loop
@@ -69,7 +66,7 @@ add-transposed-spec =
     loop-holds
     mul-add-columns
     add-add-columns
-    add-add-columns-2
+    mul-add-columns-2
     add-columns-requires
     add-y
     loop-less

@@ -1,13 +1,13 @@
--- `system::products::load_blocks` meets its contract. The invariant: the first r rows are loaded. Rests on Products.
+-- `tables::sums::load_blocks` meets its contract. The invariant: the first r rows are loaded. Rests on Sums.
 use Prim.Native.Nat.{_+_, _*_, _-_, _≤_}
 use native.Mathlib.Nat.{le-mul-of-pos-right}
 use Rattle.ground.specs.Place.{row-fits}
 use Rattle.tables.specs.Gains.{blocksRow}
-use Rattle.system.specs.Products.{Adding, adding-none, adding-next-at, adding-end, zero-rows-from}
+use Rattle.tables.specs.Sums.{Adding, adding-none, adding-next-at, adding-end, zero-rows-from}
 use borrow.Author.Needs.{needs}
 use native.Mathlib.Omega.{arith}
-use Rattle.system.proofs.products.load_blocks.Statement.{statement}
-use Rattle.system.proofs.products.load_blocks.Tie as tie
+use Rattle.tables.proofs.sums.load_blocks.Statement.{statement}
+use Rattle.tables.proofs.sums.load_blocks.Tie as tie
 
 abbrev Inv-loop : tie.InvT-loop
 Inv-loop dst₀ l stream number count n r₀ dst r = Adding dst₀ 0 l (count * l) (blocksRow l stream number) r dst

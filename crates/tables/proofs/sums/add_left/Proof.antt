@@ -1,42 +1,37 @@
--- `system::products::add_left` meets its contract. The invariant: the terms of the first j are added. Rests on Products.
+-- `tables::sums::add_left` meets its contract. The invariant: the terms of the first j are added. Rests on Sums.
 use mathlib.Core.Path.{_≡_}
 use Prim.Native.Nat.{_+_, _*_, _-_}
 use lib.ListN.{length}
-use native.Mathlib.Nat.{le-mul-of-pos-right, mul-le-mul}
+use native.Mathlib.Nat.{le-mul-of-pos-right}
 use Rattle.rows.specs.Zero.{length-zeros}
 use Rattle.tables.specs.Gains.{blocksRow}
-use Rattle.system.specs.Products.{transposedGain, leftGain, Summing, summing-none, summing-next, summing-end, transposed-loaded, LeftTurn, left-turn}
+use Rattle.tables.specs.Sums.{transposedGain, leftGain, Summing, summing-none, summing-next, summing-end, transposed-loaded, LeftTurn, left-turn}
 use borrow.Author.Needs.{needs}
 use native.Mathlib.Omega.{arith}
-use Rattle.system.proofs.products.add_left.Statement.{statement}
-use Rattle.system.proofs.products.add_left.Tie as tie
+use Rattle.tables.proofs.sums.add_left.Statement.{statement}
+use Rattle.tables.proofs.sums.add_left.Tie as tie
 
 abbrev Inv-loop : tie.InvT-loop
-Inv-loop dst₀ at l v x stream number count n m buffer₀ j₀ dst buffer j =
+Inv-loop dst₀ at l v x m stream number count n buffer₀ j₀ dst buffer j =
     (length buffer ≡ 1200)
-    × Summing dst₀ at (l * l) (count * l) v (λ j. transposedGain x (j * (l * (l * l))) (l * l) l (blocksRow l stream (number + j * count))) j dst
+    × Summing dst₀ at m (count * l) v (λ j. transposedGain x (j * (l * m)) m l (blocksRow l stream (number + j * count))) j dst
 
 abbrev μ-loop : tie.MeasureT-loop
-μ-loop dst₀ at l v x stream number count n m buffer₀ j₀ dst buffer j = v - j
+μ-loop dst₀ at l v x m stream number count n buffer₀ j₀ dst buffer j = v - j
 
 abbrev start : tie.In-loop Inv-loop μ-loop → tie.Start Inv-loop μ-loop
 start c = c .before .before .before .before .before
 
 -- where block row j stands
-turn : (c : tie.In-loop Inv-loop μ-loop) → LeftTurn (start c .args .l) (start c .args .number) (start c .args .v) (start c .args .count) (c .before .loop .j)
+turn : (c : tie.In-loop Inv-loop μ-loop) → LeftTurn (start c .args .l) (start c .args .m) (start c .args .number) (start c .args .v) (start c .args .count) (c .before .loop .j)
 turn c =
     let a = start c .args in
-    left-turn (a .l) (a .number) (a .v) (a .count) (start c .pre .1 .1 .0) (c .loop-test .taken)
+    left-turn (a .l) (a .m) (a .number) (a .v) (a .count) (start c .pre .1 .1) (c .loop-test .taken)
 
 mul-n : tie.Need-mul-n Inv-loop μ-loop
 mul-n c =
     let s = c .before .before .before in
-    omega (arith, le-mul-of-pos-right (s .args .count * s .args .l) (s .pre .1 .1 .0))
-
-mul-m : tie.Need-mul-m Inv-loop μ-loop
-mul-m c =
-    let most = c .before .before .before .pre .1 .1 .1 in
-    omega (arith, mul-le-mul most most)
+    omega (arith, le-mul-of-pos-right (s .args .count * s .args .l) (s .pre .1 .1))
 
 loop-holds : tie.Need-loop-holds Inv-loop μ-loop
 loop-holds c = (length-zeros 1200, summing-none)
@@ -54,9 +49,7 @@ load-blocks-requires : tie.Need-load-blocks-requires Inv-loop μ-loop
 load-blocks-requires c κs = omega (arith, turn (c .before))
 
 mul-add-transposed : tie.Need-mul-add-transposed Inv-loop μ-loop
-mul-add-transposed c =
-    let most = start (c .before .before .before .before) .pre .1 .1 .1 in
-    omega (arith, mul-le-mul most (mul-le-mul most most))
+mul-add-transposed c = omega (arith, turn (c .before .before .before .before))
 
 mul-add-transposed-2 : tie.Need-mul-add-transposed-2 Inv-loop μ-loop
 mul-add-transposed-2 c = omega (arith, turn (c .before .before .before .before))
@@ -78,11 +71,11 @@ loop-less c = search needs
 loop-again : tie.Need-loop-again Inv-loop μ-loop
 loop-again c =
     let now = c .before .before .before .before .before .before .before .before in
-    let l = start now .args .l in
+    let a = start now .args in
     let loaded = c .before .before .before .before .before .before .load-blocks in (
       omega (arith, loaded .kept .0),
       summing-next (now .before .loop .inv .1) (now .loop-test .taken)
-          (transposed-loaded (start now .args .x .now) (now .before .loop .j * (l * (l * l))) l (c .before .before .add-transposed .ensures) (loaded .ensures)),
+          (transposed-loaded (a .x .now) (now .before .loop .j * (a .l * a .m)) (a .l) (c .before .before .add-transposed .ensures) (loaded .ensures)),
     )
 
 same-length : tie.Need-same-length Inv-loop μ-loop
@@ -99,7 +92,6 @@ add-left-spec =
     Inv-loop
     μ-loop
     mul-n
-    mul-m
     loop-holds
     slice-aggregate-load-blocks
     mul-load-blocks

@@ -1,0 +1,93 @@
+// Products of whole byte tables, added row by row: a table transposed times a table, a table times a table, and a table transposed times the blocks of a stream.
+ghost use mathlib.Core.Path.{_≡_};
+ghost use Prim.Native.Nat.{ℕ, _+_, _*_, _<_, _≤_};
+ghost use lib.ListN.{length};
+ghost use Rattle.rows.specs.PlusRows.{PlusRows};
+ghost use Rattle.tables.specs.Gains.{blocksRow};
+ghost use Rattle.tables.specs.Sums.{HasRows, transposedGain, timesGain, rowsOf, leftGain};
+use super::add_block_row;
+
+// Room for l rows of v blocks, or of o blocks.
+const BUFFER: usize = 1200;
+
+// The m rows of n bytes from byte `at` on gain count rows of m scalars from byte `place` on, transposed, times the count rows of src.
+pub fn add_transposed(
+    dst: &mut [u8],
+    at: usize,
+    n: usize,
+    scalars: &[u8],
+    place: usize,
+    m: usize,
+    count: usize,
+    src: &[u8],
+)
+    requires { ⌜ (at + m * n ≤ length (now dst)) × ((place + count * m ≤ length (now scalars)) × ((count * n ≤ length (now src)) × (0 < count))) ⌝ }
+    ensures { λ _. ⌜ PlusRows (now (dst .entry)) at m n (transposedGain (now (scalars .entry)) place m count (rowsOf n (now (src .entry)))) (now (dst .exit)) ⌝ }
+{
+    let mut y = 0;
+    while y < m {
+        rows::add_columns(dst, at + y * n, n, scalars, place + y, m, count, src, 0);
+        y += 1;
+    }
+}
+
+// The m rows of n bytes from byte `at` on gain the m rows of count scalars times the count rows of src.
+pub fn add_times(
+    dst: &mut [u8],
+    at: usize,
+    n: usize,
+    m: usize,
+    scalars: &[u8],
+    count: usize,
+    src: &[u8],
+)
+    requires { ⌜ (at + m * n ≤ length (now dst)) × ((m * count ≤ length (now scalars)) × (count * n ≤ length (now src))) ⌝ }
+    ensures { λ _. ⌜ PlusRows (now (dst .entry)) at m n (timesGain (rowsOf count (now (scalars .entry))) count (rowsOf n (now (src .entry)))) (now (dst .exit)) ⌝ }
+{
+    let mut y = 0;
+    while y < m {
+        rows::add_columns(dst, at + y * n, n, scalars, y * count, 1, count, src, 0);
+        y += 1;
+    }
+}
+
+// dst becomes the l rows of count blocks of the stream from block number on, and zeros behind them.
+pub fn load_blocks(dst: &mut [u8], l: usize, stream: &[u8], number: usize, count: usize)
+    requires { ⌜ (l * (count * l) ≤ length (now dst)) × (((number + count) * (l * l) ≤ 2 * length (now stream)) × (0 < l)) ⌝ }
+    ensures { λ _. ⌜ HasRows l (count * l) (blocksRow l (now (stream .entry)) number) (now (dst .exit)) ⌝ }
+{
+    rows::clear(dst);
+    let n = count * l;
+    let mut r = 0;
+    while r < l {
+        add_block_row(dst, r * n, stream, number, l, r, count);
+        r += 1;
+    }
+}
+
+// The m rows of count·l bytes from byte `at` on gain, for each j below v, block row j of the table x, in rows of m bytes, transposed,
+// times block row j of the v by count blocks of the stream from block number on.
+pub fn add_left(
+    dst: &mut [u8],
+    at: usize,
+    l: usize,
+    v: usize,
+    x: &[u8],
+    m: usize,
+    stream: &[u8],
+    number: usize,
+    count: usize,
+)
+    requires { ⌜ (at + m * (count * l) ≤ length (now dst)) × ((v * l * m ≤ length (now x)) × ((number + v * count) * (l * l) ≤ 2 * length (now stream))) ⌝ }
+    requires { ⌜ (l * (count * l) ≤ 1200) × (0 < l) ⌝ }
+    ensures { λ _. ⌜ PlusRows (now (dst .entry)) at m (count * l) (leftGain l v (now (x .entry)) m (now (stream .entry)) number count) (now (dst .exit)) ⌝ }
+{
+    let n = count * l;
+    let mut buffer = [0u8; BUFFER];
+    let mut j = 0;
+    while j < v {
+        load_blocks(&mut buffer, l, stream, number + j * count, count);
+        add_transposed(dst, at, n, x, j * (l * m), m, l, &buffer);
+        j += 1;
+    }
+}
