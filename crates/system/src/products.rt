@@ -21,7 +21,7 @@ pub fn add_products(
     count: usize,
     multiples: &[u64],
 )
-    requires { ⌜ (at + a * l * n ≤ length (now dst)) × (((number + a * count) * (l * l) ≤ 2 * length (now stream)) × (count * l * 16 ≤ length (now multiples))) ⌝ }
+    requires { ⌜ (at + a * l * n ≤ length (now dst)) × (((number + a * count) * (l * l) ≤ 2 * length (now stream)) × (count * l * 8 ≤ length (now multiples))) ⌝ }
     requires { ⌜ (count * (l * l) ≤ 1200) × ((0 < count) × ((0 < l) × (l ≤ mostL))) ⌝ }
     ensures { λ _. ⌜ ((src : List ℕ) → Multiples n (count * l) src (now (multiples .entry))
         → PlusRows (now (dst .entry)) at (a * l) n (productsRow l (now (stream .entry)) number count src n) (now (dst .exit))) ⌝ }

@@ -17,14 +17,14 @@ use sets::Set;
 // Room for v·l rows of l·l bytes.
 const SUMS: usize = 4800;
 
-// Room for the sixteen multiples of each of v·l rows.
-const MULTIPLES: usize = 4800;
+// Room for the eight multiples of each of v·l rows.
+const MULTIPLES: usize = 2400;
 
 // y becomes the sums with P11 of one matrix index, v·l rows of l·l bytes, and zeros behind them. `multiples` holds the multiples of the rows of x,
 // the powers of S times the vinegar.
 fn load_products(y: &mut [u8], set: Set, i: usize, public: &[u8], multiples: &[u64])
     requires { ⌜ Bounds set × ((i < set .o) × (set .v * set .l * (set .l * set .l) ≤ length (now y))) ⌝ }
-    requires { ⌜ (length (now public) ≡ publicBytes set) × (set .v * set .l * 16 ≤ length (now multiples)) ⌝ }
+    requires { ⌜ (length (now public) ≡ publicBytes set) × (set .v * set .l * 8 ≤ length (now multiples)) ⌝ }
     ensures { λ _. ⌜ ((x : List ℕ) → Multiples (set .l * set .l) (set .v * set .l) x (now (multiples .entry))
         → HasRows (set .v * set .l) (set .l * set .l) (yRow set (now (public .entry)) x i) (now (y .exit))) ⌝ }
 {
@@ -47,7 +47,7 @@ fn add_right_index(
     y: &[u8],
 )
     requires { ⌜ Bounds set × ((i < set .o) × (at + set .o * set .l * (set .l * set .l) ≤ length (now right))) ⌝ }
-    requires { ⌜ (length (now public) ≡ publicBytes set) × ((set .v * set .l * 16 ≤ length (now multiples)) × (set .v * set .l * (set .o * set .l) ≤ length (now t))) ⌝ }
+    requires { ⌜ (length (now public) ≡ publicBytes set) × ((set .v * set .l * 8 ≤ length (now multiples)) × (set .v * set .l * (set .o * set .l) ≤ length (now t))) ⌝ }
     requires { ⌜ set .v * set .l * (set .l * set .l) ≤ length (now y) ⌝ }
     ensures { λ _. ⌜ ((x : List ℕ) → Multiples (set .l * set .l) (set .v * set .l) x (now (multiples .entry))
         → HasRows (set .v * set .l) (set .l * set .l) (yRow set (now (public .entry)) x i) (now (y .entry))
@@ -73,7 +73,7 @@ fn fill_by_multiples(
 )
     requires { ⌜ Bounds set × ((set .o * (set .o * set .l) * (set .l * set .l) ≤ length (now right)) × (set .o * (set .l * set .l) * (set .l * set .l) ≤ length (now sums))) ⌝ }
     requires { ⌜ (length (now public) ≡ publicBytes set) × ((set .v * set .l * (set .l * set .l) ≤ length (now x)) × (set .v * set .l * (set .o * set .l) ≤ length (now t))) ⌝ }
-    requires { ⌜ (set .v * set .l * 16 ≤ length (now multiples)) × Multiples (set .l * set .l) (set .v * set .l) (now x) (now multiples) ⌝ }
+    requires { ⌜ (set .v * set .l * 8 ≤ length (now multiples)) × Multiples (set .l * set .l) (set .v * set .l) (now x) (now multiples) ⌝ }
     ensures { λ _. ⌜ RightHolds set (now (public .entry)) (now (x .entry)) (now (t .entry)) (now (right .entry)) (now (right .exit)) ⌝ }
     ensures { λ _. ⌜ SumsHold set (now (public .entry)) (now (x .entry)) (now (sums .entry)) (now (sums .exit)) ⌝ }
 {

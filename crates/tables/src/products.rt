@@ -38,7 +38,7 @@ pub fn add_blocks(
     first: usize,
 )
     requires { ⌜ (at + l * n ≤ length (now dst)) × ((number + count) * (l * l) ≤ 2 * length (now stream)) ⌝ }
-    requires { ⌜ ((first + count) * l * 16 ≤ length (now multiples)) × ((count * (l * l) ≤ 1200) × ((0 < count) × ((0 < l) × (l ≤ mostL)))) ⌝ }
+    requires { ⌜ ((first + count) * l * 8 ≤ length (now multiples)) × ((count * (l * l) ≤ 1200) × ((0 < count) × ((0 < l) × (l ≤ mostL)))) ⌝ }
     ensures { λ _. ⌜ ((src : List ℕ) → Multiples n ((first + count) * l) src (now (multiples .entry))
         → PlusRows (now (dst .entry)) at l n (λ r. productRow l (now (stream .entry)) number r count src n first) (now (dst .exit))) ⌝ }
 {

@@ -35,8 +35,8 @@ module _ {set : Set} (b : Bounds set) where
   pub table-room : variables set * set .l * (set .l * set .l) ≤ 5440
   table-room = omega (arith, mul-le-mul list-room (b .limits .l-most))
 
-  -- the sixteen multiples of each of the n·l rows: 340 rows where l is 4 and o at most 10, fewer below
-  pub rows-room : variables set * set .l * 16 ≤ 5440
+  -- the eight multiples of each of the n·l rows: 340 rows where l is 4 and o at most 10, fewer below
+  pub rows-room : variables set * set .l * 8 ≤ 2720
   rows-room =
       elim (decLt (set .l) 4) [
         | yes h ↦

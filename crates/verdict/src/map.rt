@@ -23,7 +23,7 @@ fn add_rows(
     multiples: &[u64],
 )
     requires { ⌜ Bounds set ⌝ }
-    requires { ⌜ (set .l * (set .l * set .l) ≤ length (now y)) × (variables set * set .l * 16 ≤ length (now multiples)) ⌝ }
+    requires { ⌜ (set .l * (set .l * set .l) ≤ length (now y)) × (variables set * set .l * 8 ≤ length (now multiples)) ⌝ }
     requires { ⌜ ((first + set .v) * (set .l * set .l) ≤ 2 * length (now left)) × ((second + set .o) * (set .l * set .l) ≤ 2 * length (now right)) ⌝ }
     ensures { λ _. ⌜ ((w : List ℕ) → Multiples (set .l * set .l) (variables set * set .l) w (now (multiples .entry))
         → PlusRows (now (y .entry)) 0 (set .l) (set .l * set .l) (splitRow set (now (left .entry)) first (now (right .entry)) second w) (now (y .exit))) ⌝ }
@@ -46,7 +46,7 @@ fn vinegar_rows(
     j: usize,
 )
     requires { ⌜ Bounds set × (i < set .o) × (j < set .v) ⌝ }
-    requires { ⌜ (set .l * (set .l * set .l) ≤ length (now y)) × (variables set * set .l * 16 ≤ length (now multiples)) ⌝ }
+    requires { ⌜ (set .l * (set .l * set .l) ≤ length (now y)) × (variables set * set .l * 8 ≤ length (now multiples)) ⌝ }
     requires { ⌜ (length (now public) ≡ publicBytes set) × (length (now key) ≡ keyBytes set) ⌝ }
     ensures { λ _. ⌜ ((w : List ℕ) → Multiples (set .l * set .l) (variables set * set .l) w (now (multiples .entry))
         → Holds (set .l) (set .l * set .l) 1 (set .l) (now (y .exit)) (λ z b. mapSum set (now (public .entry)) (now (key .entry)) w i j b)) ⌝ }
@@ -68,7 +68,7 @@ fn oil_rows(
     k: usize,
 )
     requires { ⌜ Bounds set × (i < set .o) × (k < set .o) ⌝ }
-    requires { ⌜ (set .l * (set .l * set .l) ≤ length (now y)) × (variables set * set .l * 16 ≤ length (now multiples)) ⌝ }
+    requires { ⌜ (set .l * (set .l * set .l) ≤ length (now y)) × (variables set * set .l * 8 ≤ length (now multiples)) ⌝ }
     requires { ⌜ (length (now public) ≡ publicBytes set) × (length (now key) ≡ keyBytes set) ⌝ }
     ensures { λ _. ⌜ ((w : List ℕ) → Multiples (set .l * set .l) (variables set * set .l) w (now (multiples .entry))
         → Holds (set .l) (set .l * set .l) 1 (set .l) (now (y .exit)) (λ z b. mapSum set (now (public .entry)) (now (key .entry)) w i (set .v + k) b)) ⌝ }
@@ -90,7 +90,7 @@ pub fn map_rows(
     j: usize,
 )
     requires { ⌜ Bounds set × (i < set .o) × (j < variables set) ⌝ }
-    requires { ⌜ (set .l * (set .l * set .l) ≤ length (now y)) × (variables set * set .l * 16 ≤ length (now multiples)) ⌝ }
+    requires { ⌜ (set .l * (set .l * set .l) ≤ length (now y)) × (variables set * set .l * 8 ≤ length (now multiples)) ⌝ }
     requires { ⌜ (length (now public) ≡ publicBytes set) × (length (now key) ≡ keyBytes set) ⌝ }
     ensures { λ _. ⌜ ((w : List ℕ) → Multiples (set .l * set .l) (variables set * set .l) w (now (multiples .entry))
         → Holds (set .l) (set .l * set .l) 1 (set .l) (now (y .exit)) (λ z b. mapSum set (now (public .entry)) (now (key .entry)) w i j b)) ⌝ }

@@ -15,8 +15,8 @@ use tables::POWERS;
 // Room for the signature's elements, one to a byte.
 const LIST: usize = 1360;
 
-// Room for the sixteen multiples of each of the n·l rows of w.
-const MULTIPLES: usize = 5440;
+// Room for the eight multiples of each of the n·l rows of w.
+const MULTIPLES: usize = 2720;
 
 // w becomes the powers of S times the signature's matrices.
 pub fn signature_table(w: &mut [u8], set: Set, signature: &[u8])
@@ -45,7 +45,7 @@ fn index_sums(
     requires { ⌜ Bounds set × (i < set .o) ⌝ }
     requires { ⌜ (set .o * (set .l * set .l) * (set .l * set .l) ≤ length (now sums)) × (variables set * set .l * (set .l * set .l) ≤ length (now w)) ⌝ }
     requires { ⌜ (length (now public) ≡ publicBytes set) × (length (now key) ≡ keyBytes set) ⌝ }
-    requires { ⌜ (variables set * set .l * 16 ≤ length (now multiples)) × Multiples (set .l * set .l) (variables set * set .l) (now w) (now multiples) ⌝ }
+    requires { ⌜ (variables set * set .l * 8 ≤ length (now multiples)) × Multiples (set .l * set .l) (variables set * set .l) (now w) (now multiples) ⌝ }
     ensures { λ _. ⌜ IndexSums set (now (public .entry)) (now (key .entry)) (now (w .entry)) i (now (sums .entry)) (variables set) (now (sums .exit)) ⌝ }
 {
     let l = set.l;

@@ -2,21 +2,25 @@
 -- Rests on Multiples and algebra's sums.
 use mathlib.Core.Path.{_≡_, refl, sym, ap, ap₂, _∙_}
 use mathlib.Core.List.{List}
-use Prim.Native.Nat.{ℕ, _+_, _*_, _%_, _<_, _≤_}
-use native.Mathlib.Nat.{mod-lt, mul-le-mul-right}
+use Prim.Native.Nat.{ℕ, _+_, _*_, _/_, _%_, _<_, _≤_}
+use native.Mathlib.Nat.{mul-le-mul-right}
 use native.Mathlib.Omega.{arith}
 use lib.ListN.{getD}
 use lib.Arith.{digits-lt}
 use Rattle.algebra.specs.Sum.{sum, sum-none, sum-more, sum-cong}
 use Rattle.field.specs.Field.{add, mul}
-use Rattle.field.specs.Laws.{mul-lt, mul-mod-left}
+use Rattle.field.specs.Laws.{mul-lt}
 use Rattle.field.specs.FieldRing.{field-ring}
-use Rattle.words.specs.Words.{nibble, nibble-word, nibble-sum}
-use Rattle.words.specs.Multiples.{Multiples, multipleOf}
+use Rattle.words.specs.Words.{nibble, nibble-word, nibble-add, nibble-sum}
+use Rattle.words.specs.Multiples.{Multiples, factorOf, multipleOf, product-halves}
 
--- the sum, over x below count, of the multiple of row first + x·stride by the scalar at place + x·step
+-- row x of the table times s, by two look-ups: the multiples by the lower and by the upper coefficients of s
+unfoldable pub lookedUp : (table : List ℕ) (x s : ℕ) → ℕ
+lookedUp table x s = add (getD table (x * 8 + s % 4) 0) (getD table (x * 8 + (4 + s / 4 % 4)) 0)
+
+-- the sum, over x below count, of row first + x·stride times the scalar at place + x·step
 unfoldable pub lookups : (table scalars : List ℕ) (first stride place step count : ℕ) → ℕ
-lookups table scalars first stride place step count = sum 0 add count (λ x. getD table ((first + x * stride) * 16 + getD scalars (place + x * step) 0 % 16) 0)
+lookups table scalars first stride place step count = sum 0 add count (λ x. lookedUp table (first + x * stride) (getD scalars (place + x * step) 0))
 
 -- a row of count l by l matrices among the scalars, from place on, times the rows of the table from first on
 unfoldable pub blockLookups : (table scalars : List ℕ) (first l place count : ℕ) → ℕ
@@ -34,9 +38,9 @@ unfolding lookups
 lookups-none table scalars first stride place step = sum-none field-ring _
 
 pub lookups-next : (table scalars : List ℕ) (first stride place step x : ℕ) {w : ℕ} → w ≡ lookups table scalars first stride place step x
-    → add w (getD table ((first + x * stride) * 16 + getD scalars (place + x * step) 0 % 16) 0) ≡ lookups table scalars first stride place step (x + 1)
+    → add w (lookedUp table (first + x * stride) (getD scalars (place + x * step) 0)) ≡ lookups table scalars first stride place step (x + 1)
 unfolding lookups
-lookups-next table scalars first stride place step x e = ap (λ w. add w (getD table ((first + x * stride) * 16 + getD scalars (place + x * step) 0 % 16) 0)) e ∙ sym (sum-more field-ring x _)
+lookups-next table scalars first stride place step x e = ap (λ w. add w (lookedUp table (first + x * stride) (getD scalars (place + x * step) 0))) e ∙ sym (sum-more field-ring x _)
 
 -- the first x columns of the matrices are done
 unfoldable pub columnLookups : (table scalars : List ℕ) (first l place count x : ℕ) → ℕ
@@ -57,9 +61,12 @@ columns-end table scalars first l place count = refl
 
 -- ---- where the rows and the scalars stand
 
--- a multiple of a row stands among that row's sixteen words
-pub looked-up-below : (row s : ℕ) → row * 16 + s % 16 < row * 16 + 16
-looked-up-below row s = let h : s % 16 < 16 = mod-lt s (omega arith) in omega arith
+-- what is looked up stands among a row's eight words
+pub low-word : (row s : ℕ) → row * 8 + s % 4 < row * 8 + 8
+low-word row s = omega arith
+
+pub high-word : (row s : ℕ) → row * 8 + (4 + s / 4 % 4) < row * 8 + 8
+high-word row s = omega arith
 
 pub row-inside : (first l count : ℕ) {x k : ℕ} → x < l → k < count → first + x + k * l < first + count * l
 row-inside first l count {x} {k} hx hk = let h : k * l + x < count * l = digits-lt hk hx in omega arith
@@ -73,13 +80,19 @@ scalar-inside place l count {x} {k} hx hk =
 
 -- ---- what is looked up
 
-lookup : {n count : ℕ} {src table : List ℕ} → Multiples n count src table → (x s c : ℕ) → x < count → c < n
-    → nibble (getD table (x * 16 + s % 16) 0) c ≡ mul s (getD src (x * n + c) 0)
+lookup : {n count : ℕ} {src table : List ℕ} → Multiples n count src table → (x q c : ℕ) → x < count → q < 8 → c < n
+    → nibble (getD table (x * 8 + q) 0) c ≡ mul (factorOf q) (getD src (x * n + c) 0)
 unfolding multipleOf
-lookup {n} {count} {src} m x s c hx hc =
-    ap (λ w. nibble w c) (m .word x (s % 16) hx (mod-lt s (omega arith)))
-    ∙ nibble-word n (λ y. mul (s % 16) (getD src (x * n + y) 0)) (λ y. mul-lt _ _) c hc
-    ∙ mul-mod-left s (getD src (x * n + c) 0)
+lookup {n} {count} {src} m x q c hx hq hc =
+    ap (λ w. nibble w c) (m .word x q hx hq) ∙ nibble-word n (λ y. mul (factorOf q) (getD src (x * n + y) 0)) (λ y. mul-lt _ _) c hc
+
+-- an element of row x times s
+product : {n count : ℕ} {src table : List ℕ} → Multiples n count src table → (x s c : ℕ) → x < count → c < n
+    → nibble (lookedUp table x s) c ≡ mul s (getD src (x * n + c) 0)
+unfolding lookedUp
+product {n} {count} {src} {table} m x s c hx hc =
+    nibble-add c (getD table (x * 8 + s % 4) 0) (getD table (x * 8 + (4 + s / 4 % 4)) 0)
+    ∙ ap₂ add (lookup m x (s % 4) c hx (omega arith) hc) (lookup m x (4 + s / 4 % 4) c hx (omega arith) hc) ∙ product-halves s (getD src (x * n + c) 0)
 
 -- the word's elements are those of the product's row
 pub block-lookups : {n rows : ℕ} {src table : List ℕ} → Multiples n rows src table → (scalars : List ℕ) (first l place count : ℕ) → first + count * l ≤ rows
@@ -89,6 +102,6 @@ block-lookups {n} {rows} {src} {table} m scalars first l place count fits c hc =
     nibble-sum c l _ ∙ sum-cong field-ring l (λ x hx. nibble-sum c count _ ∙ sum-cong field-ring count (λ k hk. term x k hx hk))
   where
     term : (x k : ℕ) → x < l → k < count
-        → nibble (getD table ((first + x + k * l) * 16 + getD scalars (place + x + k * (l * l)) 0 % 16) 0) c
+        → nibble (lookedUp table (first + x + k * l) (getD scalars (place + x + k * (l * l)) 0)) c
         ≡ mul (getD scalars (place + x + k * (l * l)) 0) (getD src ((first + x + k * l) * n + c) 0)
-    term x k hx hk = lookup m (first + x + k * l) (getD scalars (place + x + k * (l * l)) 0) c (omega (arith, row-inside first l count hx hk)) hc
+    term x k hx hk = product m (first + x + k * l) (getD scalars (place + x + k * (l * l)) 0) c (omega (arith, row-inside first l count hx hk)) hc

@@ -1,4 +1,4 @@
--- A table of words that holds the sixteen multiples of each row of a byte table.
+-- A table of words that holds eight multiples of each row of a byte table, from which every multiple is the sum of two.
 -- Rests on Words and field's products.
 use mathlib.Core.Path.{_≡_, refl, sym, ap, ap₂, _∙_}
 use mathlib.Core.List.{List}
@@ -6,16 +6,17 @@ use Prim.Native.Nat.{ℕ, _+_, _-_, _*_, _/_, _%_, _^_, _<_, _≤_}
 use native.Mathlib.Nat.{not-suc-le-zero}
 use native.Mathlib.Decide.{decLt}
 use native.Mathlib.Omega.{arith}
-use lib.Dec.{T, eqb, ltb, leb, eqb→eq, ltb→lt}
-use borrow.Author.Tests.{le-leb, lt-leb}
+use lib.Dec.{T, eqb, ltb, eqb→eq}
+use borrow.Author.Tests.{lt-ltb, le-ltb}
 use lib.ListN.{length, getD, set, length-set}
 use lib.Seq.{getD-set-same, getD-set-other}
 use Rattle.ground.specs.Pick.{pick}
 use Rattle.ground.specs.Place.{row-fits}
-use Rattle.ground.specs.Tests.{every, below}
+use Rattle.ground.specs.Tests.{every, below2}
 use lib.Bits.{bitXor}
+use lib.Pow.{mod-pow-add}
 use Rattle.field.specs.Field.{add, mul}
-use Rattle.field.specs.Laws.{mul-lt, add-mul}
+use Rattle.field.specs.Laws.{mul-lt, mul-mod-left, add-mul}
 use Rattle.words.specs.Words.{wordOf, word-add, word-cong, word-none, word-next, word-room}
 
 -- the word of p times row[at..at + n]
@@ -26,13 +27,13 @@ multipleOf n row at p = wordOf n (λ c. mul p (getD row (at + c) 0))
 unfoldable pub multipleFrom : (n : ℕ) (row : List ℕ) (at p c : ℕ) → ℕ
 multipleFrom n row at p c = wordOf (n - c) (λ y. mul p (getD row (at + (c + y)) 0))
 
--- the largest of 1, 2, 4, 8 that is not above p; 0 for 0
-unfoldable pub highestOf : ℕ → ℕ
-highestOf p = pick (leb 8 p) 8 (pick (leb 4 p) 4 (pick (leb 2 p) 2 p))
+-- what word q of a row's eight is a multiple by: 0, 1, 2, 3, then 0, 4, 8, 12
+unfoldable pub factorOf : ℕ → ℕ
+factorOf q = pick (ltb q 4) q (4 * (q - 4))
 
--- word 16·x + p of the table is p times row x of src, for count rows of n bytes
+-- word 8·x + q of the table is row x of src times the factor of q, for count rows of n bytes
 pub record Multiples (n count : ℕ) (src table : List ℕ) : Type 0 where
-  pub word : (x p : ℕ) → x < count → p < 16 → getD table (x * 16 + p) 0 ≡ multipleOf n src (x * n) p
+  pub word : (x q : ℕ) → x < count → q < 8 → getD table (x * 8 + q) 0 ≡ multipleOf n src (x * n) (factorOf q)
 
 -- the multiples of the first rows
 pub fewer-multiples : {n a b : ℕ} {src table : List ℕ} → Multiples n a src table → b ≤ a → Multiples n b src table
@@ -42,43 +43,42 @@ fewer-multiples m h = record { word = λ x p hx hp. m .word x p (omega arith) hp
 pub record Multiplied (n count : ℕ) (src before after : List ℕ) : Type 0 where
   pub long : length after ≡ length before
   pub words : Multiples n count src after
-  pub behind : (k : ℕ) → count * 16 ≤ k → getD after k 0 ≡ getD before k 0
+  pub behind : (k : ℕ) → count * 8 ≤ k → getD after k 0 ≡ getD before k 0
 
--- ---- a multiple as the sum of two smaller ones
+-- ---- a product as the sum of two multiples
 
--- p is the sum of its highest coefficient and the rest, for an element p
-halves-test : T (every 16 (λ p. eqb (bitXor (highestOf p) (p - highestOf p)) p))
-unfolding highestOf
+-- the lower and the upper two coefficients of an element
+halves-test : T (every 4 (λ a. every 4 (λ b. eqb (bitXor b (4 * a)) (a * 4 + b))))
 halves-test = tt
 
-highest-test : T (every 16 (λ p. ltb (highestOf p) (p + 1)))
-unfolding highestOf
-highest-test = tt
-
-halves : (p : ℕ) → p < 16 → add (highestOf p) (p - highestOf p) ≡ p
+halves : (a b : ℕ) → a < 4 → b < 4 → add b (4 * a) ≡ a * 4 + b
 unfolding add
-halves p h = eqb→eq _ _ (below 16 (λ q. eqb (bitXor (highestOf q) (q - highestOf q)) q) halves-test p h)
+halves a b ha hb = eqb→eq _ _ (below2 4 (λ a b. eqb (bitXor b (4 * a)) (a * 4 + b)) halves-test a b ha hb)
 
-pub highest-le : (p : ℕ) → p < 16 → highestOf p ≤ p
-highest-le p h = omega (arith, ltb→lt (highestOf p) (p + 1) (below 16 (λ q. ltb (highestOf q) (q + 1)) highest-test p h))
+-- the factor's two cases
+pub factor-low : (q : ℕ) → q < 4 → q ≡ factorOf q
+unfolding factorOf
+factor-low q h = rw (lt-ltb q 4 h)
 
-rest-test : T (every 15 (λ p. ltb (p + 1 - highestOf (p + 1)) (p + 1)))
-unfolding highestOf
-rest-test = tt
+pub factor-high : (q : ℕ) → 4 ≤ q → 4 * (q - 4) ≡ factorOf q
+unfolding factorOf
+factor-high q h = rw (le-ltb q 4 h)
 
--- what is left of p is less than p
-pub rest-lt : (p : ℕ) → 0 < p → p < 16 → p - highestOf p < p
-rest-lt p some h =
-    let back : p - 1 + 1 ≡ p = omega arith in
-    let less : p - 1 + 1 - highestOf (p - 1 + 1) < p - 1 + 1 = ltb→lt _ _ (below 15 (λ q. ltb (q + 1 - highestOf (q + 1)) (q + 1)) rest-test (p - 1) (omega arith)) in
-    rw back at less
+low-factor : (s : ℕ) → factorOf (s % 4) ≡ s % 4
+low-factor s = sym (factor-low (s % 4) (omega arith))
 
-pub multiple-halves : (n : ℕ) (row : List ℕ) (at p : ℕ) {top a b : ℕ} → p < 16 → top ≡ highestOf p → a ≡ multipleOf n row at top → b ≡ multipleOf n row at (p - top)
-    → add a b ≡ multipleOf n row at p
-unfolding multipleOf
-multiple-halves n row at p h top-is a-is b-is =
-    ap₂ add (a-is ∙ ap (multipleOf n row at) top-is) (b-is ∙ ap (λ x. multipleOf n row at (p - x)) top-is) ∙ word-add n _ _ (λ c. mul-lt _ _) (λ c. mul-lt _ _)
-    ∙ word-cong n (λ c. sym (add-mul (highestOf p) (p - highestOf p) (getD row (at + c) 0)) ∙ ap (λ q. mul q (getD row (at + c) 0)) (halves p h))
+high-factor : (s : ℕ) → factorOf (4 + s / 4 % 4) ≡ 4 * (s / 4 % 4)
+high-factor s =
+    let back : 4 + s / 4 % 4 - 4 ≡ s / 4 % 4 = omega arith in
+    sym (factor-high (4 + s / 4 % 4) (omega arith)) ∙ ap (λ x. 4 * x) back
+
+-- a scalar is read modulo 16; its product with y is that of its two halves
+pub product-halves : (s y : ℕ) → add (mul (factorOf (s % 4)) y) (mul (factorOf (4 + s / 4 % 4)) y) ≡ mul s y
+product-halves s y =
+    let element : s % 16 ≡ s / 4 % 4 * 4 + s % 4 = mod-pow-add s 2 2 in
+    let both : add (factorOf (s % 4)) (factorOf (4 + s / 4 % 4)) ≡ s % 16 =
+    ap₂ add (low-factor s) (high-factor s) ∙ halves (s / 4 % 4) (s % 4) (omega arith) (omega arith) ∙ sym element in
+    sym (add-mul (factorOf (s % 4)) (factorOf (4 + s / 4 % 4)) y) ∙ ap (λ p. mul p y) both ∙ mul-mod-left s y
 
 -- ---- one multiple, from its last element to its first
 
@@ -106,29 +106,11 @@ pub multiple-room : (n : ℕ) (row : List ℕ) (at p c : ℕ) → 0 < c → n �
 unfolding multipleFrom
 multiple-room n row at p c some fits = word-room (n - c) _ (omega arith) (λ y. mul-lt p _)
 
--- ---- the highest coefficient, by cases
-
-pub highest-8 : (p : ℕ) → 8 ≤ p → 8 ≡ highestOf p
-unfolding highestOf
-highest-8 p h = rw (le-leb 8 p h)
-
-pub highest-4 : (p : ℕ) → p < 8 → 4 ≤ p → 4 ≡ highestOf p
-unfolding highestOf
-highest-4 p l h = rw (lt-leb 8 p (omega arith), le-leb 4 p h)
-
-pub highest-2 : (p : ℕ) → p < 4 → 2 ≤ p → 2 ≡ highestOf p
-unfolding highestOf
-highest-2 p l h = rw (lt-leb 8 p (omega arith), lt-leb 4 p (omega arith), le-leb 2 p h)
-
-pub highest-1 : (p : ℕ) → p < 2 → p ≡ highestOf p
-unfolding highestOf
-highest-1 p l = rw (lt-leb 8 p (omega arith), lt-leb 4 p (omega arith), lt-leb 2 p (omega arith))
-
 -- ---- the table, word after word
 
 -- word k of the table
 abbrev pub wordAt : (n : ℕ) (src : List ℕ) (k : ℕ) → ℕ
-wordAt n src k = multipleOf n src (k / 16 * n) (k % 16)
+wordAt n src k = multipleOf n src (k / 8 * n) (factorOf (k % 8))
 
 -- after k words
 pub record Multiplying (n : ℕ) (src before : List ℕ) (k : ℕ) (t : List ℕ) : Type 0 where
@@ -150,22 +132,14 @@ multiplying-next {n} {src} {d} {t} {k} p l w e = record {
   behind = λ j h. getD-set-other t k j w 0 (omega arith) ∙ p .behind j (omega arith);
 }
 
--- the smaller multiples of word k's row stand right before it
-pub smaller-multiples : {n : ℕ} {src d t : List ℕ} {k : ℕ} → Multiplying n src d k t
-    → (q : ℕ) → q < k % 16 → getD t (k - k % 16 + q) 0 ≡ multipleOf n src (k / 16 * n) q
-smaller-multiples {n} {src} {k = k} p q h =
-    let row : (k - k % 16 + q) / 16 ≡ k / 16 = omega arith in
-    let factor : (k - k % 16 + q) % 16 ≡ q = omega arith in
-    p .done (k - k % 16 + q) (omega arith) ∙ ap₂ (λ x y. multipleOf n src (x * n) y) row factor
-
-pub multiplying-end : {n count : ℕ} {src d t : List ℕ} {k : ℕ} → Multiplying n src d k t → k ≤ count * 16 → count * 16 ≤ k → Multiplied n count src d t
+pub multiplying-end : {n count : ℕ} {src d t : List ℕ} {k : ℕ} → Multiplying n src d k t → k ≤ count * 8 → count * 8 ≤ k → Multiplied n count src d t
 multiplying-end {n} {count} {src} {d} {t} {k} p h l = record {
   long = p .long;
   words = record {
     word = λ x y hx hy.
-        let row : (x * 16 + y) / 16 ≡ x = omega arith in
-        let factor : (x * 16 + y) % 16 ≡ y = omega arith in
-        p .done (x * 16 + y) (omega (arith, row-fits 16 hx)) ∙ ap₂ (λ a b. multipleOf n src (a * n) b) row factor;
+        let row : (x * 8 + y) / 8 ≡ x = omega arith in
+        let factor : (x * 8 + y) % 8 ≡ y = omega arith in
+        p .done (x * 8 + y) (omega (arith, row-fits 8 hx)) ∙ ap₂ (λ a b. multipleOf n src (a * n) (factorOf b)) row factor;
   };
   behind = λ j hj. p .behind j (omega arith);
 }

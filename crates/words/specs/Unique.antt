@@ -17,12 +17,12 @@ pub unique-multiply : {n count : ℕ} {src d t u : List ℕ} → Multiplied n co
 unique-multiply {count = count} {t = t} {u} p q =
     ext-getD 0 t u (p .long ∙ sym (q .long))
     (λ k h.
-    elim (decLt k (count * 16)) [
+    elim (decLt k (count * 8)) [
       | yes l ↦
-          let row : k / 16 < count = omega arith in
-          let factor : k % 16 < 16 = omega arith in
-          let at : k / 16 * 16 + k % 16 ≡ k = omega arith in
-          ap (λ x. getD t x 0) (sym at) ∙ p .words .word (k / 16) (k % 16) row factor ∙ sym (q .words .word (k / 16) (k % 16) row factor) ∙ ap (λ x. getD u x 0) at
+          let row : k / 8 < count = omega arith in
+          let factor : k % 8 < 8 = omega arith in
+          let at : k / 8 * 8 + k % 8 ≡ k = omega arith in
+          ap (λ x. getD t x 0) (sym at) ∙ p .words .word (k / 8) (k % 8) row factor ∙ sym (q .words .word (k / 8) (k % 8) row factor) ∙ ap (λ x. getD u x 0) at
       | no l ↦ p .behind k (omega arith) ∙ sym (q .behind k (omega arith))
     ])
 

@@ -1,12 +1,11 @@
-// Rows of up to sixteen elements as words: element c of a row is nibble c of a word, so that two rows are added by one exclusive or. A table of words holds the sixteen
-// multiples of each row of a byte table, so that a row times a scalar is one look-up. Sums of many short rows, as key generation, the verdict and signing have them, cost little then.
+// Rows of up to sixteen elements as words: element c of a row is nibble c of a word, so that two rows are added by one exclusive or. A table of words holds eight multiples
+// of each row of a byte table, those by 0, 1, 2, 3 and by 0, 4, 8, 12: a row times a scalar is the sum of two of them. Sums of many short rows, as the verdict and signing have them, cost little then.
 ghost use mathlib.Core.Path.{_≡_};
 ghost use Prim.Native.Nat.{ℕ, _+_, _*_, _<_, _≤_};
-ghost use lib.ListN.{length, getD};
-ghost use Rattle.field.specs.Field.{mul};
+ghost use lib.ListN.{length};
 ghost use Rattle.rows.specs.Plus.{Plus};
-ghost use Rattle.words.specs.Words.{nibble, wordOf};
-ghost use Rattle.words.specs.Multiples.{highestOf, multipleOf, Multiplied};
+ghost use Rattle.words.specs.Words.{nibble};
+ghost use Rattle.words.specs.Multiples.{factorOf, multipleOf, Multiplied};
 ghost use Rattle.words.specs.Lookups.{lookups, blockLookups};
 ghost use Rattle.words.specs.Spread.{Spread};
 
@@ -25,49 +24,29 @@ fn multiple(row: &[u8], at: usize, n: usize, p: u8) -> u64
     w
 }
 
-// The largest of 1, 2, 4, 8 that is not above p; 0 for 0.
-fn highest(p: usize) -> usize
-    ensures { λ r. ⌜ r ≡ highestOf p ⌝ }
+// What word q of a row's eight is a multiple by: 0, 1, 2, 3, then 0, 4, 8, 12.
+fn factor(q: usize) -> u8
+    requires { ⌜ q < 8 ⌝ }
+    ensures { λ r. ⌜ r ≡ factorOf q ⌝ }
 {
-    if p >= 8 {
-        return 8;
-    }
-    if p >= 4 {
-        return 4;
-    }
-    if p >= 2 { 2 } else { p }
+    if q < 4 { q as u8 } else { (4 * (q - 4)) as u8 }
 }
 
-// The word of p times row[from..from + n]: the sum of two smaller multiples, which stand in the table from word `at` on, where p is no power of 2.
-fn next_multiple(table: &[u64], at: usize, row: &[u8], from: usize, n: usize, p: usize) -> u64
-    requires { ⌜ (from + n ≤ length (now row)) × ((n ≤ 16) × ((p < 16) × (at + p ≤ length (now table)))) ⌝ }
-    requires { ⌜ ((q : ℕ) → q < p → getD (now table) (at + q) 0 ≡ multipleOf n (now row) from q) ⌝ }
-    ensures { λ w. ⌜ w ≡ multipleOf n (now (row .entry)) from p ⌝ }
-{
-    let top = highest(p);
-    let rest = p - top;
-    if rest == 0 {
-        return multiple(row, from, n, p as u8);
-    }
-    table[at + top] ^ table[at + rest]
-}
-
-// The first 16·count words of the table become the multiples of count rows of n bytes: word 16·x + p is p times row x.
+// The first 8·count words of the table become the multiples of count rows of n bytes: word 8·x + q is row x times the factor of q.
 pub fn multiply(table: &mut [u64], src: &[u8], n: usize, count: usize)
-    requires { ⌜ (count * 16 ≤ length (now table)) × ((count * n ≤ length (now src)) × (n ≤ 16)) ⌝ }
+    requires { ⌜ (count * 8 ≤ length (now table)) × ((count * n ≤ length (now src)) × (n ≤ 16)) ⌝ }
     ensures { λ _. ⌜ Multiplied n count (now (src .entry)) (now (table .entry)) (now (table .exit)) ⌝ }
 {
-    let total = count * 16;
+    let total = count * 8;
     let mut k = 0;
     while k < total {
-        let p = k % 16;
-        let w = next_multiple(table, k - p, src, k / 16 * n, n, p);
-        table[k] = w;
+        let p = factor(k % 8);
+        table[k] = multiple(src, k / 8 * n, n, p);
         k += 1;
     }
 }
 
-// The sum, over x below count, of the multiple of row first + x·stride by scalars[place + x·step].
+// The sum, over x below count, of row first + x·stride times scalars[place + x·step]: each product is two look-ups.
 fn looked_up(
     table: &[u64],
     first: usize,
@@ -77,14 +56,15 @@ fn looked_up(
     step: usize,
     count: usize,
 ) -> u64
-    requires { ⌜ ((x : ℕ) → x < count → ((first + x * stride) * 16 + 16 ≤ length (now table)) × (place + x * step < length (now scalars))) ⌝ }
+    requires { ⌜ ((x : ℕ) → x < count → ((first + x * stride) * 8 + 8 ≤ length (now table)) × (place + x * step < length (now scalars))) ⌝ }
     ensures { λ w. ⌜ w ≡ lookups (now (table .entry)) (now (scalars .entry)) first stride place step count ⌝ }
 {
     let mut w = 0;
     let mut x = 0;
     while x < count {
-        let p = (scalars[place + x * step] % 16) as usize;
-        w ^= table[(first + x * stride) * 16 + p];
+        let p = scalars[place + x * step] as usize;
+        let row = (first + x * stride) * 8;
+        w ^= table[row + p % 4] ^ table[row + (4 + p / 4 % 4)];
         x += 1;
     }
     w
@@ -99,7 +79,7 @@ pub fn product_word(
     place: usize,
     count: usize,
 ) -> u64
-    requires { ⌜ ((first + count * l) * 16 ≤ length (now table)) × ((place + count * (l * l) ≤ length (now scalars)) × (0 < count)) ⌝ }
+    requires { ⌜ ((first + count * l) * 8 ≤ length (now table)) × ((place + count * (l * l) ≤ length (now scalars)) × (0 < count)) ⌝ }
     ensures { λ w. ⌜ w ≡ blockLookups (now (table .entry)) (now (scalars .entry)) first l place count ⌝ }
 {
     let mut w = 0;

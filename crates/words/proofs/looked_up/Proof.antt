@@ -1,10 +1,10 @@
--- `words::looked_up` meets its contract. The loop's invariant: w is the sum of the first x look-ups.
+-- `words::looked_up` meets its contract. The loop's invariant: w is the sum of the first x products, each of two look-ups.
 use mathlib.Core.Path.{_≡_, sym, ap, _∙_}
 use Prim.Native.Nat.{_+_, _*_, _-_, _<_, _≤_}
 use native.Mathlib.Nat.{lt-of-lt-of-le}
 use lib.ListN.{length}
 use Rattle.field.specs.Field.{add}
-use Rattle.words.specs.Lookups.{lookups, lookups-none, lookups-next, looked-up-below}
+use Rattle.words.specs.Lookups.{lookedUp, lookups, lookups-none, lookups-next, low-word, high-word}
 use borrow.Author.Needs.{needs, scaled-fits}
 use native.Mathlib.Omega.{arith}
 use Rattle.words.proofs.looked_up.Statement.{statement}
@@ -21,7 +21,7 @@ loop-holds c = (search needs, sym (lookups-none _ _ _ _ _ _))
 
 -- the row of this turn lies within the table, its scalar among the scalars
 inside : (c : tie.In-loop Inv-loop μ-loop)
-    → ((c .before .before .args .first + c .before .loop .x * c .before .before .args .stride) * 16 + 16 ≤ length (c .before .before .args .table .now))
+    → ((c .before .before .args .first + c .before .loop .x * c .before .before .args .stride) * 8 + 8 ≤ length (c .before .before .args .table .now))
     × (c .before .before .args .place + c .before .loop .x * c .before .before .args .step < length (c .before .before .args .scalars .now))
 inside c = c .before .before .pre (c .before .loop .x) (c .loop-test .taken)
 
@@ -35,25 +35,40 @@ shared-slice-read-p : tie.Need-shared-slice-read-p Inv-loop μ-loop
 shared-slice-read-p c = omega (arith, inside (c .before) .1)
 
 cast-p : tie.Need-cast-p Inv-loop μ-loop
-cast-p c = search needs
+cast-p c =
+    let at = c .before .before in
+    let a = at .before .args in
+    omega (arith, c .shared-slice-known .given (a .place + at .loop .x * a .step))
 
-mul-w : tie.Need-mul-w Inv-loop μ-loop
-mul-w c = omega (arith, inside (c .before) .0)
+mul-row : tie.Need-mul-row Inv-loop μ-loop
+mul-row c = omega (arith, inside (c .before) .0)
+
+add-row : tie.Need-add-row Inv-loop μ-loop
+add-row c = omega (arith, inside (c .before) .0)
+
+mul-row-2 : tie.Need-mul-row-2 Inv-loop μ-loop
+mul-row-2 c = omega (arith, inside (c .before) .0)
 
 add-w : tie.Need-add-w Inv-loop μ-loop
 add-w c = omega (arith, inside (c .before) .0)
 
-mul-w-2 : tie.Need-mul-w-2 Inv-loop μ-loop
-mul-w-2 c = omega (arith, inside (c .before) .0)
-
-add-w-2 : tie.Need-add-w-2 Inv-loop μ-loop
-add-w-2 c = omega (arith, inside (c .before) .0)
-
-mul-w-3 : tie.Need-mul-w-3 Inv-loop μ-loop
-mul-w-3 c = scaled-fits _ _ 8 (lt-of-lt-of-le (looked-up-below _ _) (inside (c .before) .0)) (search needs)
+mul-w : tie.Need-mul-w Inv-loop μ-loop
+mul-w c = scaled-fits _ _ 8 (lt-of-lt-of-le (low-word _ _) (inside (c .before) .0)) (search needs)
 
 shared-slice-read-w : tie.Need-shared-slice-read-w Inv-loop μ-loop
 shared-slice-read-w c = omega (arith, inside (c .before .before) .0)
+
+add-w-2 : tie.Need-add-w-2 Inv-loop μ-loop
+add-w-2 c = omega (arith, inside (c .before .before) .0)
+
+add-w-3 : tie.Need-add-w-3 Inv-loop μ-loop
+add-w-3 c = omega (arith, inside (c .before .before) .0)
+
+mul-w-2 : tie.Need-mul-w-2 Inv-loop μ-loop
+mul-w-2 c = scaled-fits _ _ 8 (lt-of-lt-of-le (high-word _ _) (inside (c .before .before) .0)) (search needs)
+
+shared-slice-read-w-2 : tie.Need-shared-slice-read-w-2 Inv-loop μ-loop
+shared-slice-read-w-2 c = omega (arith, inside (c .before .before .before) .0)
 
 add-x : tie.Need-add-x Inv-loop μ-loop
 add-x c = search needs
@@ -62,8 +77,8 @@ loop-less : tie.Need-loop-less Inv-loop μ-loop
 loop-less c = search needs
 
 loop-again : tie.Need-loop-again Inv-loop μ-loop
-unfolding add
-loop-again c = (search needs, lookups-next _ _ _ _ _ _ _ (c .before .before .before .loop .inv .1))
+unfolding add lookedUp
+loop-again c = (search needs, lookups-next _ _ _ _ _ _ _ (c .before .before .before .before .loop .inv .1))
 
 returns : tie.Need-returns Inv-loop μ-loop
 returns c = c .before .loop .inv .1 ∙ ap (lookups _ _ _ _ _ _) (omega arith)
@@ -79,12 +94,16 @@ looked-up-spec =
     add-p
     shared-slice-read-p
     cast-p
-    mul-w
+    mul-row
+    add-row
+    mul-row-2
     add-w
-    mul-w-2
-    add-w-2
-    mul-w-3
+    mul-w
     shared-slice-read-w
+    add-w-2
+    add-w-3
+    mul-w-2
+    shared-slice-read-w-2
     add-x
     loop-less
     loop-again

@@ -1,8 +1,9 @@
 -- `words::multiply` meets its contract. The loop's invariant: the first k words are made.
+use mathlib.Core.Path.{ap, _∙_}
 use Prim.Native.Nat.{_+_, _*_, _-_, _/_, _<_, _≤_}
 use lib.ListN.{length}
 use Rattle.ground.specs.Place.{row-fits}
-use Rattle.words.specs.Multiples.{Multiplying, multiplying-none, multiplying-next, multiplying-end, smaller-multiples}
+use Rattle.words.specs.Multiples.{multipleOf, Multiplying, multiplying-none, multiplying-next, multiplying-end}
 use borrow.Author.Needs.{needs}
 use native.Mathlib.Omega.{arith}
 use Rattle.words.proofs.multiply.Statement.{statement}
@@ -20,24 +21,23 @@ mul-total c = search needs
 loop-holds : tie.Need-loop-holds Inv-loop μ-loop
 loop-holds c = (search needs, multiplying-none)
 
-sub-next-multiple : tie.Need-sub-next-multiple Inv-loop μ-loop
-sub-next-multiple c = search needs
+factor-requires : tie.Need-factor-requires Inv-loop μ-loop
+factor-requires c κs = omega arith
 
 -- the row of word k lies within src
 row-inside : (c : tie.In-loop Inv-loop μ-loop)
-    → c .before .loop .k / 16 * c .before .before .before .before .args .n + c .before .before .before .before .args .n
+    → c .before .loop .k / 8 * c .before .before .before .before .args .n + c .before .before .before .before .args .n
     ≤ length (c .before .before .before .before .args .src .now)
 row-inside c =
     let start = c .before .before .before .before in
-    let row : c .before .loop .k / 16 < start .args .count = omega arith in
+    let row : c .before .loop .k / 8 < start .args .count = omega arith in
     omega (arith, row-fits (start .args .n) row)
 
-mul-next-multiple : tie.Need-mul-next-multiple Inv-loop μ-loop
-mul-next-multiple c = omega (arith, row-inside (c .before))
+mul-multiple : tie.Need-mul-multiple Inv-loop μ-loop
+mul-multiple c = omega (arith, row-inside (c .before))
 
-next-multiple-requires : tie.Need-next-multiple-requires Inv-loop μ-loop
-next-multiple-requires c κs = let start = c .before .before .before .before .before in
-    ((row-inside (c .before), (start .pre .1 .1, (omega arith, omega (arith, c .before .before .loop .inv .1 .long)))), smaller-multiples (c .before .before .loop .inv .1))
+multiple-requires : tie.Need-multiple-requires Inv-loop μ-loop
+multiple-requires c κs = (row-inside (c .before), c .before .before .before .before .before .pre .1 .1)
 
 mul-table : tie.Need-mul-table Inv-loop μ-loop
 mul-table c = search needs
@@ -52,7 +52,8 @@ loop-less : tie.Need-loop-less Inv-loop μ-loop
 loop-less c = search needs
 
 loop-again : tie.Need-loop-again Inv-loop μ-loop
-loop-again c = (search needs, multiplying-next (c .before .before .before .loop .inv .1) (omega arith) _ (c .next-multiple .ensures))
+loop-again c = let turn = c .before .before in
+    (search needs, multiplying-next (turn .before .loop .inv .1) (omega arith) _ (c .multiple .ensures ∙ ap (multipleOf _ _ _) (c .before .factor .ensures)))
 
 same-length : tie.Need-same-length Inv-loop μ-loop
 same-length c = c .before .loop .inv .1 .long
@@ -68,9 +69,9 @@ multiply-spec =
     μ-loop
     mul-total
     loop-holds
-    sub-next-multiple
-    mul-next-multiple
-    next-multiple-requires
+    factor-requires
+    mul-multiple
+    multiple-requires
     mul-table
     slice-write-table
     add-k

@@ -21,7 +21,7 @@ loop-holds c = (search needs, sym (columns-none _ _ _ _ _ _))
 
 -- the rows of column x lie within the table, its scalars among the scalars
 rows-inside : (c : tie.In-loop Inv-loop μ-loop) (k : ℕ) → k < c .before .before .before .before .args .count
-    → ((c .before .before .before .before .args .first + c .before .loop .x + k * c .before .before .before .before .args .l) * 16 + 16
+    → ((c .before .before .before .before .args .first + c .before .loop .x + k * c .before .before .before .before .args .l) * 8 + 8
     ≤ length (c .before .before .before .before .args .table .now))
     × (c .before .before .before .before .args .place + c .before .loop .x + k * (c .before .before .before .before .args .l * c .before .before .before .before .args .l)
     < length (c .before .before .before .before .args .scalars .now))

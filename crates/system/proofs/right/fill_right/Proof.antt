@@ -25,7 +25,7 @@ fill-by-multiples-requires : tie.Need-fill-by-multiples-requires
 fill-by-multiples-requires c κs =
     let s = c .before .before .before .before .before .before .before .before .before .before .before .before in
     let multiply = c .before .before .before .before .multiply in
-    (s .pre .0, (s .pre .1, (omega (arith, table-sizes (s .pre .0 .0) .vl, length-zeros 4800, multiply .kept .0), multiply .ensures .words)))
+    (s .pre .0, (s .pre .1, (omega (arith, table-sizes (s .pre .0 .0) .vl, length-zeros 2400, multiply .kept .0), multiply .ensures .words)))
 
 same-length : tie.Need-same-length
 same-length c = search needs

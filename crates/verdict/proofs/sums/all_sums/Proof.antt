@@ -34,7 +34,7 @@ mul-multiply-2 c = omega (arith, rows-room (c .before .before .before .before .b
 
 multiply-requires : tie.Need-multiply-requires Inv-loop μ-loop
 multiply-requires c κs = let s = c .before .before .before .before .before .before .before .before .before .before in
-    (omega (arith, rows-room (s .pre .0), length-zeros 5440), (s .pre .1 .0 .1, square-room (s .pre .0)))
+    (omega (arith, rows-room (s .pre .0), length-zeros 2720), (s .pre .1 .0 .1, square-room (s .pre .0)))
 
 loop-holds : tie.Need-loop-holds Inv-loop μ-loop
 loop-holds c = (refl, summing-none (cleared (c .before .before .before .before .before .before .before .before .before .before .before .before .args .sums .now) (c .before .before .before .before .before .before .clear .ensures)))
@@ -48,7 +48,7 @@ index-sums-requires c κs = let s = c .before .before .before .before .before .b
       (s .pre .0, c .before .before .loop-test .taken),
       (
         (omega (arith, s .pre .1 .0 .0, c .before .before .before .loop .inv .0, c .before .before .before .before .before .before .before .before .before .before .clear .kept .0), s .pre .1 .0 .1),
-        (s .pre .1 .1, (omega (arith, rows-room (s .pre .0), length-zeros 5440, multiply .kept .0), multiply .ensures .words)),
+        (s .pre .1 .1, (omega (arith, rows-room (s .pre .0), length-zeros 2720, multiply .kept .0), multiply .ensures .words)),
       ),
     )
 
