@@ -1,5 +1,6 @@
 -- `matrix::product_entry` meets its contract. The invariant: the sum so far is the entry's first k terms (`mulM` at k).
-use mathlib.Core.Path.{_≡_, sym, ap₂, _∙_}
+-- A callee with no `requires` asks nothing: `(λ _ _. tt)`.
+use mathlib.Core.Path.{_≡_, sym, ap, ap₂, _∙_}
 use Prim.Native.Nat.{_≤_, _-_}
 use native.Mathlib.Omega.{arith}
 use borrow.Author.Needs.{needs}
@@ -25,12 +26,6 @@ entry-requires c κs = search needs
 entry-requires-2 : tie.Need-entry-requires-2 Inv-loop μ-loop
 entry-requires-2 c κs = search needs
 
-mul-requires : tie.Need-mul-requires Inv-loop μ-loop
-mul-requires c κs = search needs
-
-add-requires : tie.Need-add-requires Inv-loop μ-loop
-add-requires c κs = search needs
-
 add-k : tie.Need-add-k Inv-loop μ-loop
 add-k c = search needs
 
@@ -44,7 +39,11 @@ loop-again c =
     (omega arith, c .add .ensures ∙ ap₂ add (at .loop .inv .1) term ∙ sym (mulM-more (at .loop .k) _ _ _ _))
 
 returns : tie.Need-returns Inv-loop μ-loop
-returns c = let all : c .before .loop .k ≡ c .before .before .args .l = omega arith in cc
+returns c =
+    let at = c .before in
+    let in' = at .before .args in
+    let all : at .loop .k ≡ in' .l = omega (arith, at .loop .inv .0, c .loop-test .left) in
+    at .loop .inv .1 ∙ ap (λ k. mulM k (view (in' .a)) (view (in' .b)) (in' .r) (in' .c)) all
 
 pub product-entry-spec : {M : Type 1} → statement M
 product-entry-spec =
@@ -55,8 +54,8 @@ product-entry-spec =
     loop-holds
     entry-requires
     entry-requires-2
-    mul-requires
-    add-requires
+    (λ _ _. tt)
+    (λ _ _. tt)
     add-k
     loop-less
     loop-again
