@@ -1,21 +1,9 @@
 -- `field::mul` meets its contract: the four multiples of a, those chosen that b has (`mul-chosen`).
+-- A callee with no `requires` asks nothing: `(λ _ _. tt)`.
 use mathlib.Core.Path.{refl, _∙_}
 use Rattle.field.specs.Laws.{mul-chosen}
-use borrow.Author.Needs.{needs}
 use Rattle.field.proofs.mul.Statement.{statement}
 use Rattle.field.proofs.mul.Tie as tie
-
-twice-requires : tie.Need-twice-requires
-twice-requires c κs = search needs
-
-twice-requires-2 : tie.Need-twice-requires-2
-twice-requires-2 c κs = search needs
-
-twice-requires-3 : tie.Need-twice-requires-3
-twice-requires-3 c κs = search needs
-
-chosen-requires : tie.Need-chosen-requires
-chosen-requires c κs = search needs
 
 returns : tie.Need-returns
 returns c =
@@ -26,4 +14,4 @@ returns c =
 
 pub mul-spec : {M : Type 1} → statement M
 mul-spec =
-    tie.close (tie.spec twice-requires twice-requires-2 twice-requires-3 chosen-requires returns)
+    tie.close (tie.spec (λ _ _. tt) (λ _ _. tt) (λ _ _. tt) (λ _ _. tt) returns)

@@ -3,7 +3,9 @@
 use mathlib.Core.Path.{sym, _∙_}
 use borrow.Author.Tests.{not-true, not-false}
 use Rattle.ground.specs.Answers.{lowest}
+use Rattle.sets.specs.Sets.{publicBytes, privateBytes, keyBytes}
 use Rattle.refusals.specs.Rules.{keygenRules}
+use Rattle.refusals.specs.Chain.{length-rule, met-rule, no-rule}
 use Rattle.refusals.proofs.keygen_refusal.Statement.{statement}
 use Rattle.refusals.proofs.keygen_refusal.Tie as tie
 
@@ -12,20 +14,19 @@ unfolding lowest keygenRules
 returns c = rw (sym (c .before .allowed .ensures) ∙ not-true _ (c .if1 .taken))
 
 returns-2 : tie.Need-returns-2
-unfolding lowest keygenRules
+unfolding keygenRules
 returns-2 c =
     let r13 = c .before .before in
     let r20 = r13 .before .before in
     let at = r20 .before .before in
-    rw (
-      c .first-of3 .ensures,
-      c .before .public-bytes .ensures,
-      r13 .first-of2 .ensures,
-      r13 .before .private-bytes .ensures,
-      r20 .first-of .ensures,
-      r20 .before .key-bytes .ensures,
-      sym (at .before .allowed .ensures) ∙ not-false _ (at .if1 .left),
-    )
+    let a = at .before .before .args in
+    let s = a .s in
+    let ok = sym (at .before .allowed .ensures) ∙ not-false _ (at .if1 .left) in
+    (met-rule ok
+    (length-rule (a .public) (publicBytes s) ok (c .before .public-bytes .ensures) (c .first-of3 .ensures)
+    (length-rule (a .private) (privateBytes s) ok (r13 .before .private-bytes .ensures) (r13 .first-of2 .ensures)
+    (length-rule (a .output) (keyBytes s) ok (r20 .before .key-bytes .ensures) (r20 .first-of .ensures)
+    no-rule)))) .is
 
 pub keygen-refusal-spec : {M : Type 1} → statement M
 keygen-refusal-spec =

@@ -1,4 +1,5 @@
 -- `matrix::combination` meets its contract. The invariant: the block of S to the k, and the block of the first k terms of Algorithm 1's sum.
+-- A callee with no `requires` asks nothing: `(λ _ _. tt)`.
 use mathlib.Core.Path.{_≡_, sym, ap, _∙_}
 use Prim.Native.Nat.{_≤_, _-_}
 use native.Mathlib.Omega.{arith}
@@ -17,26 +18,11 @@ Inv-loop l a s power₀ sum₀ k₀ power sum k = (k ≤ l) × ((power ≡ block
 abbrev μ-loop : tie.MeasureT-loop
 μ-loop l a s power₀ sum₀ k₀ power sum k = l - k
 
-s-matrix-requires : tie.Need-s-matrix-requires Inv-loop μ-loop
-s-matrix-requires c κs = search needs
-
-one-requires : tie.Need-one-requires Inv-loop μ-loop
-one-requires c κs = search needs
-
-no-block-requires : tie.Need-no-block-requires Inv-loop μ-loop
-no-block-requires c κs = search needs
-
 loop-holds : tie.Need-loop-holds Inv-loop μ-loop
 loop-holds c = (omega arith, (c .before .one .ensures ∙ ap (block _) (sym (powerS-none _)), terms-start _ _ (c .no-block .ensures)))
 
 coefficient-requires : tie.Need-coefficient-requires Inv-loop μ-loop
 coefficient-requires c κs = search needs
-
-scaled-requires : tie.Need-scaled-requires Inv-loop μ-loop
-scaled-requires c κs = search needs
-
-plus-requires : tie.Need-plus-requires Inv-loop μ-loop
-plus-requires c κs = search needs
 
 product-requires : tie.Need-product-requires Inv-loop μ-loop
 product-requires c κs = search needs
@@ -63,9 +49,11 @@ loop-again c =
 
 returns : tie.Need-returns Inv-loop μ-loop
 returns c =
-    let in' = c .before .before .before .before .before .args in
-    let all : c .before .loop .k ≡ in' .l = omega arith in
-    cc (terms-all (in' .l) (λ j. getD (in' .a) j 0))
+    let at = c .before in
+    let in' = at .before .before .before .before .args in
+    let all : at .loop .k ≡ in' .l = omega (arith, at .loop .inv .0, c .loop-test .left) in
+    at .loop .inv .1 .1 ∙ ap (λ k. block (in' .l) (terms (in' .l) (coefficient (in' .l) (λ j. getD (in' .a) j 0)) k)) all
+    ∙ ap (block (in' .l)) (terms-all (in' .l) (λ j. getD (in' .a) j 0))
 
 pub combination-spec : {M : Type 1} → statement M
 combination-spec =
@@ -73,13 +61,13 @@ combination-spec =
     (tie.spec
     Inv-loop
     μ-loop
-    s-matrix-requires
-    one-requires
-    no-block-requires
+    (λ _ _. tt)
+    (λ _ _. tt)
+    (λ _ _. tt)
     loop-holds
     coefficient-requires
-    scaled-requires
-    plus-requires
+    (λ _ _. tt)
+    (λ _ _. tt)
     product-requires
     add-k
     loop-less

@@ -1,4 +1,5 @@
 -- `matrix::s_power` meets its contract. The invariant: after i products the block is that of S to the i.
+-- A callee with no `requires` asks nothing: `(λ _ _. tt)`.
 use mathlib.Core.Path.{_≡_, sym, ap, _∙_}
 use Prim.Native.Nat.{_≤_, _-_}
 use native.Mathlib.Omega.{arith}
@@ -15,12 +16,6 @@ Inv-loop l k s power₀ i₀ power i = (i ≤ k) × (power ≡ block l (powerS l
 
 abbrev μ-loop : tie.MeasureT-loop
 μ-loop l k s power₀ i₀ power i = k - i
-
-s-matrix-requires : tie.Need-s-matrix-requires Inv-loop μ-loop
-s-matrix-requires c κs = search needs
-
-one-requires : tie.Need-one-requires Inv-loop μ-loop
-one-requires c κs = search needs
 
 loop-holds : tie.Need-loop-holds Inv-loop μ-loop
 loop-holds c = (omega arith, c .one .ensures ∙ ap (block _) (sym (powerS-none _)))
@@ -40,7 +35,11 @@ loop-again c =
     (omega arith, power-step (at .before .before .before .pre) (at .loop .i) (at .before .before .s-matrix .ensures) (at .loop .inv .1) (c .product .ensures))
 
 returns : tie.Need-returns Inv-loop μ-loop
-returns c = let all : c .before .loop .i ≡ c .before .before .before .before .args .k = omega arith in cc
+returns c =
+    let at = c .before in
+    let in' = at .before .before .before .args in
+    let all : at .loop .i ≡ in' .k = omega (arith, at .loop .inv .0, c .loop-test .left) in
+    at .loop .inv .1 ∙ ap (λ i. block (in' .l) (powerS (in' .l) i)) all
 
 pub s-power-spec : {M : Type 1} → statement M
 s-power-spec =
@@ -48,8 +47,8 @@ s-power-spec =
     (tie.spec
     Inv-loop
     μ-loop
-    s-matrix-requires
-    one-requires
+    (λ _ _. tt)
+    (λ _ _. tt)
     loop-holds
     product-requires
     add-i

@@ -15,7 +15,7 @@ known : (c : tie.Then1) → Bounds (c .before .before .args .s)
 known c = bounds _ (sym (c .before .allowed .ensures) ∙ c .if1 .taken)
 
 n-small : (c : tie.After-unknowns) → c .unknowns .result + 1 ≤ mostRow + 1
-n-small c = let b = known (c .before) in omega (arith, b .sizes .unknowns, c .unknowns .ensures)
+n-small c = omega (arith, known (c .before) .sizes .unknowns, c .unknowns .ensures)
 
 square-small : (c : tie.After-unknowns) → c .unknowns .result * (c .unknowns .result + 1) ≤ mostRow * (mostRow + 1)
 square-small c = let n = n-small c in let m : c .unknowns .result ≤ mostRow = omega arith in mul-le-mul m n
@@ -30,19 +30,19 @@ mul-result : tie.Need-mul-result
 mul-result c = omega (arith, square-small c)
 
 mul-result-2 : tie.Need-mul-result-2
-mul-result-2 c = let b = known (c .before .before) in omega (arith, b .limits)
+mul-result-2 c = omega (arith, known (c .before .before) .limits .v-most)
 
 mul-result-3 : tie.Need-mul-result-3
-mul-result-3 c = let b = known (c .before .before .before) in omega (arith, b .products)
+mul-result-3 c = omega (arith, known (c .before .before .before) .products .vo)
 
 mul-result-4 : tie.Need-mul-result-4
-mul-result-4 c = let b = known (c .before .before .before .before) in omega (arith, b .products)
+mul-result-4 c = omega (arith, known (c .before .before .before .before) .products .ll)
 
 mul-result-5 : tie.Need-mul-result-5
-mul-result-5 c = let b = known (c .before .before .before .before) in omega (arith, b .products)
+mul-result-5 c = omega (arith, known (c .before .before .before .before) .products .voll)
 
 add-result-2 : tie.Need-add-result-2
-add-result-2 c = let b = known (c .before .before .before .before) in omega (arith, b .products, square-small (c .before .before .before))
+add-result-2 c = omega (arith, known (c .before .before .before .before) .products .voll, square-small (c .before .before .before))
 
 returns : tie.Need-returns
 unfolding workBytes

@@ -1,24 +1,25 @@
 -- `signing::build_system` meets its contract: each table is filled from the one before, and the built rows are page 01's system (`system-holds`). Rests on Building.
+-- A table that is lent again is as long as it was made: each call keeps its length (`kept`).
+use mathlib.Core.Path.{refl, sym}
 use Rattle.scheme.specs.Streams.{vinegarOf}
 use Rattle.system.specs.System.{system-holds}
 use Rattle.tables.specs.Rooms.{kept-room, powers-room, private-room, vinegar-room, left-room, right-room, sums-room}
 use Rattle.signing.specs.Building.{built-from, system-room}
 use native.Mathlib.Omega.{arith}
-use borrow.Author.Needs.{needs}
 use Rattle.signing.proofs.solving.build_system.Statement.{statement}
 use Rattle.signing.proofs.solving.build_system.Tie as tie
 
 slice-aggregate-powers-of-s : tie.Need-slice-aggregate-powers-of-s
-slice-aggregate-powers-of-s c = search needs
+slice-aggregate-powers-of-s c = refl
 
 powers-of-s-requires : tie.Need-powers-of-s-requires
-powers-of-s-requires c κs = search needs
+powers-of-s-requires c κs = let b = c .before .before .before .before .before .before .before .pre .0 .0 in (omega (arith, b .limits .l-most), powers-room b)
 
 slice-aggregate-private-table : tie.Need-slice-aggregate-private-table
-slice-aggregate-private-table c = search needs
+slice-aggregate-private-table c = refl
 
 slice-aggregate-private-table-2 : tie.Need-slice-aggregate-private-table-2
-slice-aggregate-private-table-2 c = search needs
+slice-aggregate-private-table-2 c = sym (c .before .before .before .powers-of-s .kept .0)
 
 private-table-requires : tie.Need-private-table-requires
 private-table-requires c κs =
@@ -28,10 +29,10 @@ private-table-requires c κs =
     (b, ((s .pre .1 .0 .1 .1, private-room b, kept-room (powers-room b) (sp .kept .0)), sp .ensures .holds))
 
 slice-aggregate-load-vinegar : tie.Need-slice-aggregate-load-vinegar
-slice-aggregate-load-vinegar c = search needs
+slice-aggregate-load-vinegar c = refl
 
 slice-aggregate-load-vinegar-2 : tie.Need-slice-aggregate-load-vinegar-2
-slice-aggregate-load-vinegar-2 c = search needs
+slice-aggregate-load-vinegar-2 c = sym (c .before .before .before .before .before .before .before .powers-of-s .kept .0)
 
 load-vinegar-requires : tie.Need-load-vinegar-requires
 load-vinegar-requires c κs =
@@ -41,13 +42,13 @@ load-vinegar-requires c κs =
     ((b, s .pre .1 .1 .0), (vinegar-room b, (kept-room (powers-room b) (sp .kept .0), sp .ensures .holds)))
 
 slice-aggregate-fill-left : tie.Need-slice-aggregate-fill-left
-slice-aggregate-fill-left c = search needs
+slice-aggregate-fill-left c = refl
 
 slice-aggregate-fill-left-2 : tie.Need-slice-aggregate-fill-left-2
-slice-aggregate-fill-left-2 c = search needs
+slice-aggregate-fill-left-2 c = sym (c .before .before .before .load-vinegar .kept .0)
 
 slice-aggregate-fill-left-3 : tie.Need-slice-aggregate-fill-left-3
-slice-aggregate-fill-left-3 c = search needs
+slice-aggregate-fill-left-3 c = sym (c .before .before .before .before .before .before .before .before .private-table .kept .0)
 
 fill-left-requires : tie.Need-fill-left-requires
 fill-left-requires c κs =
@@ -67,16 +68,16 @@ fill-left-requires c κs =
     )
 
 slice-aggregate-fill-right : tie.Need-slice-aggregate-fill-right
-slice-aggregate-fill-right c = search needs
+slice-aggregate-fill-right c = refl
 
 slice-aggregate-fill-right-2 : tie.Need-slice-aggregate-fill-right-2
-slice-aggregate-fill-right-2 c = search needs
+slice-aggregate-fill-right-2 c = refl
 
 slice-aggregate-fill-right-3 : tie.Need-slice-aggregate-fill-right-3
-slice-aggregate-fill-right-3 c = search needs
+slice-aggregate-fill-right-3 c = sym (c .before .before .before .before .before .before .before .before .before .load-vinegar .kept .0)
 
 slice-aggregate-fill-right-4 : tie.Need-slice-aggregate-fill-right-4
-slice-aggregate-fill-right-4 c = search needs
+slice-aggregate-fill-right-4 c = sym (c .before .before .before .before .before .before .before .before .before .before .before .before .before .before .private-table .kept .0)
 
 fill-right-requires : tie.Need-fill-right-requires
 fill-right-requires c κs =
@@ -89,16 +90,20 @@ fill-right-requires c κs =
     ((b, (right-room b, sums-room b)), (begin .pre .1 .0 .0, (x, t)))
 
 slice-aggregate-build : tie.Need-slice-aggregate-build
-slice-aggregate-build c = search needs
+slice-aggregate-build c = sym (c .before .before .before .before .before .before .before .before .before .before .fill-left .kept .0)
 
 slice-aggregate-build-2 : tie.Need-slice-aggregate-build-2
-slice-aggregate-build-2 c = search needs
+slice-aggregate-build-2 c = sym (c .before .before .before .before .before .fill-right .kept .0)
 
 slice-aggregate-build-3 : tie.Need-slice-aggregate-build-3
-slice-aggregate-build-3 c = search needs
+slice-aggregate-build-3 c = sym (c .before .before .before .before .before .before .fill-right .kept .1 .0)
 
 slice-aggregate-build-4 : tie.Need-slice-aggregate-build-4
-slice-aggregate-build-4 c = search needs
+slice-aggregate-build-4 c =
+    let at-fill-right = c .before .before .before .before .before .before .before in
+    let at-fill-left = at-fill-right .before .before .before .before .before .before in
+    let at-powers-of-s = at-fill-left .before .before .before .before .before .before .before .before .before .before .before .before .before in
+    sym (at-powers-of-s .powers-of-s .kept .0)
 
 build-requires : tie.Need-build-requires
 build-requires c κs =
@@ -114,7 +119,7 @@ build-requires c κs =
     ((b, system-room (begin .args .set) (begin .pre .1 .1 .1 .1)), ((begin .pre .1 .0 .1 .0, (begin .pre .0 .1, begin .pre .1 .1 .1 .0)), (left, (right, (sp, sums)))))
 
 same-length : tie.Need-same-length
-same-length c = search needs
+same-length c = c .before .before .build .kept .0
 
 returns : tie.Need-returns
 returns c =

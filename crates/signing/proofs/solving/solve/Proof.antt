@@ -1,8 +1,7 @@
 -- `signing::solve` meets its contract: the built system is an area of elements, and what elimination finds of it is page 01's (`solving-from`). Rests on Building.
+use mathlib.Core.Path.{_∙_}
 use Rattle.signing.specs.Emitting.{some-l, system-within}
 use Rattle.signing.specs.Building.{built-area, solving-from}
-use native.Mathlib.Omega.{arith}
-use borrow.Author.Needs.{needs}
 use Rattle.signing.proofs.solving.solve.Statement.{statement}
 use Rattle.signing.proofs.solving.solve.Tie as tie
 
@@ -11,7 +10,7 @@ build-system-requires c κs =
     c .before .before .before .before .before .before .before .pre
 
 unknowns-requires : tie.Need-unknowns-requires
-unknowns-requires c κs = search needs
+unknowns-requires c κs = c .before .before .before .before .before .before .before .before .before .before .pre .0 .0
 
 eliminate-requires : tie.Need-eliminate-requires
 eliminate-requires c κs =
@@ -22,7 +21,7 @@ eliminate-requires c κs =
     (at-build-system .build-system .ensures)
 
 same-length : tie.Need-same-length
-same-length c = search needs
+same-length c = let at-eliminate = c .before .before in at-eliminate .eliminate .kept .0 ∙ at-eliminate .before .before .before .before .before .build-system .kept .0
 
 returns : tie.Need-returns
 returns c =

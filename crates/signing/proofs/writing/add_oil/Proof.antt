@@ -4,7 +4,6 @@ use mathlib.Core.Path.{refl}
 use Rattle.tables.specs.Table.{Filling, filling-none, filling-next, filling-end}
 use Rattle.signing.specs.Writing.{oilRow}
 use Rattle.signing.specs.Emitting.{OilTurn, oil-turn}
-use borrow.Author.Needs.{needs}
 use native.Mathlib.Omega.{arith}
 use Rattle.signing.proofs.writing.add_oil.Statement.{statement}
 use Rattle.signing.proofs.writing.add_oil.Tie as tie
@@ -51,10 +50,12 @@ add-columns-requires c κs =
     )
 
 add-y : tie.Need-add-y Inv-loop μ-loop
-add-y c = search needs
+add-y c =
+    let now = c .before .before .before .before in
+    omega (arith, now .loop-test .taken, start (now .before) .pre .0 .products .vl)
 
 loop-less : tie.Need-loop-less Inv-loop μ-loop
-loop-less c = search needs
+loop-less c = omega (arith, c .before .before .before .before .loop-test .taken)
 
 loop-again : tie.Need-loop-again Inv-loop μ-loop
 loop-again c =
@@ -62,7 +63,7 @@ loop-again c =
     filling-next (now .before .loop .inv) (now .loop-test .taken) refl (c .before .before .add-columns .ensures)
 
 same-length : tie.Need-same-length Inv-loop μ-loop
-same-length c = search needs
+same-length c = c .before .loop .inv .so-far .long
 
 returns : tie.Need-returns Inv-loop μ-loop
 returns c = filling-end (c .before .loop .inv) (c .loop-test .left)

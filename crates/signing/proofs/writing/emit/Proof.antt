@@ -1,18 +1,18 @@
 -- `signing::emit` meets its contract. The oil is the solution that was read, U its list, and the output its packed bytes (`signature-from`).
-use mathlib.Core.Path.{sym, subst}
+-- A table that is lent again is as long as it was made: each call keeps its length (`kept`).
+use mathlib.Core.Path.{refl, sym, subst}
 use Prim.Native.Nat.{ℕ, _+_, _*_, _≤_}
 use lib.ListN.{length}
 use Rattle.signing.specs.Emitting.{some-l, list-lt, solution-read, oil-read, signature-from}
-use borrow.Author.Needs.{needs}
 use native.Mathlib.Omega.{arith}
 use Rattle.signing.proofs.writing.emit.Statement.{statement}
 use Rattle.signing.proofs.writing.emit.Tie as tie
 
 unknowns-requires : tie.Need-unknowns-requires
-unknowns-requires c κs = search needs
+unknowns-requires c κs = c .before .before .before .before .before .pre .0
 
 slice-aggregate-read-solution : tie.Need-slice-aggregate-read-solution
-slice-aggregate-read-solution c = search needs
+slice-aggregate-read-solution c = refl
 
 read-solution-requires : tie.Need-read-solution-requires
 read-solution-requires c κs =
@@ -23,10 +23,10 @@ read-solution-requires c κs =
     )
 
 slice-aggregate-solution-list : tie.Need-slice-aggregate-solution-list
-slice-aggregate-solution-list c = search needs
+slice-aggregate-solution-list c = refl
 
 slice-aggregate-solution-list-2 : tie.Need-slice-aggregate-solution-list-2
-slice-aggregate-solution-list-2 c = search needs
+slice-aggregate-solution-list-2 c = sym (c .before .before .before .read-solution .kept .0)
 
 solution-list-requires : tie.Need-solution-list-requires
 solution-list-requires c κs =
@@ -46,7 +46,7 @@ solution-list-requires c κs =
     )
 
 slice-aggregate-write-output : tie.Need-slice-aggregate-write-output
-slice-aggregate-write-output c = search needs
+slice-aggregate-write-output c = sym (c .before .before .before .solution-list .kept .0)
 
 write-output-requires : tie.Need-write-output-requires
 write-output-requires c κs =
@@ -69,7 +69,7 @@ write-output-requires c κs =
     )
 
 same-length : tie.Need-same-length
-same-length c = search needs
+same-length c = c .before .before .write-output .kept .0
 
 returns : tie.Need-returns
 returns c =

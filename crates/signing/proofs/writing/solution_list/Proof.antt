@@ -1,13 +1,14 @@
 -- `signing::solution_list` meets its contract. T12 as a table, the vinegar unpacked, plus T12 times the oil, then the oil (`solution-from`).
+-- A table that is lent again is as long as it was made: each call keeps its length (`kept`).
+use mathlib.Core.Path.{refl, sym, _∙_}
 use Rattle.tables.specs.Rooms.{kept-room, powers-room, private-room}
 use Rattle.signing.specs.Emitting.{vinegar-within, counted, counted-from-start, vinegar-first, vinegar-rows, oil-rows, oil-last, solution-from}
-use borrow.Author.Needs.{needs}
 use native.Mathlib.Omega.{arith}
 use Rattle.signing.proofs.writing.solution_list.Statement.{statement}
 use Rattle.signing.proofs.writing.solution_list.Tie as tie
 
 slice-aggregate-powers-of-s : tie.Need-slice-aggregate-powers-of-s
-slice-aggregate-powers-of-s c = search needs
+slice-aggregate-powers-of-s c = refl
 
 powers-of-s-requires : tie.Need-powers-of-s-requires
 powers-of-s-requires c κs =
@@ -15,10 +16,10 @@ powers-of-s-requires c κs =
     (omega (arith, b .limits .l-most), powers-room b)
 
 slice-aggregate-private-table : tie.Need-slice-aggregate-private-table
-slice-aggregate-private-table c = search needs
+slice-aggregate-private-table c = refl
 
 slice-aggregate-private-table-2 : tie.Need-slice-aggregate-private-table-2
-slice-aggregate-private-table-2 c = search needs
+slice-aggregate-private-table-2 c = sym (c .before .before .before .powers-of-s .kept .0)
 
 private-table-requires : tie.Need-private-table-requires
 private-table-requires c κs =
@@ -28,10 +29,10 @@ private-table-requires c κs =
     (b, ((s .pre .1 .0 .0, private-room b, kept-room (powers-room b) (sp .kept .0)), sp .ensures .holds))
 
 vinegar-count-requires : tie.Need-vinegar-count-requires
-vinegar-count-requires c κs = search needs
+vinegar-count-requires c κs = c .before .before .before .before .before .before .before .before .before .before .before .pre .0
 
 unknowns-requires : tie.Need-unknowns-requires
-unknowns-requires c κs = search needs
+unknowns-requires c κs = c .before .before .before .before .before .before .before .before .before .before .before .before .pre .0
 
 unpack-all-requires : tie.Need-unpack-all-requires
 unpack-all-requires c κs =
@@ -41,7 +42,7 @@ unpack-all-requires c κs =
     (vinegar-first b n (s .pre .1 .1 .0 .0), counted n (vinegar-within (s .args .set) (s .pre .1 .0 .1)))
 
 slice-aggregate-add-oil : tie.Need-slice-aggregate-add-oil
-slice-aggregate-add-oil c = search needs
+slice-aggregate-add-oil c = sym (c .before .before .before .before .before .before .before .before .before .private-table .kept .0)
 
 add-oil-requires : tie.Need-add-oil-requires
 add-oil-requires c κs =
@@ -66,7 +67,11 @@ add-scaled-requires c κs =
     (oil-last b n m room, counted-from-start m (begin .pre .1 .1 .0 .1))
 
 same-length : tie.Need-same-length
-same-length c = search needs
+same-length c =
+    let at-add-scaled = c .before .before in
+    let at-add-oil = at-add-scaled .before .before .before .before in
+    let at-unpack-all = at-add-oil .before .before .before .before .before in
+    at-add-scaled .add-scaled .kept .0 ∙ at-add-oil .add-oil .kept .0 ∙ at-unpack-all .unpack-all .kept .0
 
 returns : tie.Need-returns
 returns c =

@@ -1,17 +1,15 @@
 -- `signing::write_output` meets its contract. The elements and a zero in the spare half, then the salt (`output-from`).
+-- A callee with no `requires` asks nothing: `(λ _ _. tt)`.
+use mathlib.Core.Path.{_∙_}
 use Prim.Native.Nat.{_+_}
 use Rattle.packing.specs.Packing.{packedBytes}
 use Rattle.signing.specs.Emitting.{output-from}
-use borrow.Author.Needs.{needs}
 use native.Mathlib.Omega.{arith}
 use Rattle.signing.proofs.writing.write_output.Statement.{statement}
 use Rattle.signing.proofs.writing.write_output.Tie as tie
 
 signature-count-requires : tie.Need-signature-count-requires
-signature-count-requires c κs = search needs
-
-packed-bytes-requires : tie.Need-packed-bytes-requires
-packed-bytes-requires c κs = search needs
+signature-count-requires c κs = c .before .before .before .pre .0
 
 mul-put-row : tie.Need-mul-put-row
 unfolding packedBytes
@@ -45,7 +43,7 @@ write-salt-requires c κs =
     omega (arith, at-packed-bytes .packed-bytes .ensures, at-signature-count .signature-count .ensures, at-put-row .put-row .kept .0, begin .pre .1 .0 .0)
 
 same-length : tie.Need-same-length
-same-length c = search needs
+same-length c = let at-write-salt = c .before .before in at-write-salt .write-salt .kept .0 ∙ at-write-salt .before .before .before .before .put-row .kept .0
 
 returns : tie.Need-returns
 returns c =
@@ -65,7 +63,7 @@ write-output-spec =
     tie.close
     (tie.spec
     signature-count-requires
-    packed-bytes-requires
+    (λ _ _. tt)
     mul-put-row
     put-row-requires
     write-salt-requires

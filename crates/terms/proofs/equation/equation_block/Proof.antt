@@ -18,7 +18,7 @@ abbrev μ-loop : tie.MeasureT-loop
 μ-loop set abq sums i l count sum₀ alpha₀ sum alpha = count - alpha
 
 term-count-requires : tie.Need-term-count-requires Inv-loop μ-loop
-term-count-requires c κs = search needs
+term-count-requires c κs = c .before .before .pre .0 .0
 
 loop-holds : tie.Need-loop-holds Inv-loop μ-loop
 loop-holds c = (omega arith, sum-start _ _)
@@ -27,13 +27,16 @@ term-block-requires : tie.Need-term-block-requires Inv-loop μ-loop
 term-block-requires c κs =
     let at-term-count = c .before .before in
     let begin = at-term-count .before .before .before in
-    (record { bounds = begin .pre .0 .0; equation = begin .pre .0 .1; below = omega (arith, at-term-count .term-count .ensures) }, (begin .pre .1 .0, begin .pre .1 .1))
+    (record { bounds = begin .pre .0 .0; equation = begin .pre .0 .1; below = omega (arith, c .loop-test .taken, at-term-count .term-count .ensures) }, (begin .pre .1 .0, begin .pre .1 .1))
 
 plus-requires : tie.Need-plus-requires Inv-loop μ-loop
 plus-requires c κs = search needs
 
 add-alpha : tie.Need-add-alpha Inv-loop μ-loop
-add-alpha c = omega (arith, c .before .before .before .before .before .before .before .pre .0 .0 .sizes .terms, c .before .before .before .before .term-count .ensures)
+add-alpha c =
+    let turn = c .before .before in
+    let at-term-count = turn .before .before in
+    omega (arith, turn .loop-test .taken, at-term-count .term-count .ensures, at-term-count .before .before .before .pre .0 .0 .sizes .terms)
 
 loop-less : tie.Need-loop-less Inv-loop μ-loop
 loop-less c = search needs
@@ -45,7 +48,7 @@ loop-again c =
     let s = begin .before .before .before .before in
     let a = s .args in
     let inside : a .set .l ≤ 5 = omega (arith, s .pre .0 .0 .limits .l-most) in (
-      omega arith,
+      omega (arith, at-term-block .before .loop-test .taken),
       sum-step inside (termFrom (a .set) (a .abq .now) (a .sums .now) (a .i)) (begin .loop .alpha) (begin .loop .inv .1) (at-term-block .term-block .ensures)
           (c .plus .ensures),
     )
@@ -54,7 +57,7 @@ returns : tie.Need-returns Inv-loop μ-loop
 returns c =
     let at = c .before in
     let a = at .before .before .before .before .args in
-    let all : at .loop .alpha ≡ terms (a .set) = omega (arith, at .before .term-count .ensures) in
+    let all : at .loop .alpha ≡ terms (a .set) = omega (arith, c .loop-test .left, at .loop .inv .0, at .before .term-count .ensures) in
     at .loop .inv .1 ∙ ap (λ n. block (a .set .l) (sumM n (termFrom (a .set) (a .abq .now) (a .sums .now) (a .i)))) all
 
 pub equation-block-spec : {M : Type 1} → statement M

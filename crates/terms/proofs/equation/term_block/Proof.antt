@@ -1,5 +1,4 @@
 -- `terms::term_block` meets its contract: the parts stand at their numbers (`a-is`, `middle-is`, `b-is`), and the two products are the term (`term-of`).
-use mathlib.Core.Path.{ap}
 use Prim.Native.Nat.{_*_, _<_, _≤_}
 use Rattle.sets.specs.Sets.{terms}
 use Rattle.scheme.specs.Streams.{A, B}
@@ -8,51 +7,48 @@ use Rattle.scheme.specs.Regroup.{q1Of, q2Of}
 use Rattle.terms.specs.Places.{size-allowed, a-within, b-within, q1-within, q2-within, index-lt, block-within, group-within, sums-within}
 use Rattle.terms.specs.Terms.{gatheredFrom, termFrom}
 use Rattle.terms.specs.Adding.{a-is, b-is, middle-is, term-of}
-use borrow.Author.Needs.{needs}
 use native.Mathlib.Omega.{arith}
 use Rattle.terms.proofs.equation.term_block.Statement.{statement}
 use Rattle.terms.proofs.equation.term_block.Tie as tie
 
 a-number-requires : tie.Need-a-number-requires
-a-number-requires c κs = search needs
+a-number-requires c κs = c .before .before .pre .0
 
 invertible-at-requires : tie.Need-invertible-at-requires
 invertible-at-requires c κs =
     let s = c .before .before .before in
     let t = s .pre .0 in
-    let within : c .a-number .result < 2 * (s .args .set .o * terms (s .args .set)) = omega (arith, a-within t) in
+    let within : c .a-number .result < 2 * (s .args .set .o * terms (s .args .set)) = omega (arith, c .a-number .ensures, a-within t) in
     (size-allowed (t .bounds .limits), block-within (t .bounds) (s .args .abq .now) (s .pre .1 .0 .0) within)
 
 b-number-requires : tie.Need-b-number-requires
-b-number-requires c κs = search needs
+b-number-requires c κs = c .before .before .before .before .pre .0
 
 invertible-at-requires-2 : tie.Need-invertible-at-requires-2
 invertible-at-requires-2 c κs =
     let s = c .before .before .before .before .before in
     let t = s .pre .0 in
-    let within : c .b-number .result < 2 * (s .args .set .o * terms (s .args .set)) = omega (arith, b-within t) in
+    let within : c .b-number .result < 2 * (s .args .set .o * terms (s .args .set)) = omega (arith, c .b-number .ensures, b-within t) in
     (size-allowed (t .bounds .limits), block-within (t .bounds) (s .args .abq .now) (s .pre .1 .0 .0) within)
 
 matrix-index-requires : tie.Need-matrix-index-requires
-matrix-index-requires c κs = search needs
+matrix-index-requires c κs = c .before .before .before .before .before .before .pre .0
 
 q1-number-requires : tie.Need-q1-number-requires
-q1-number-requires c κs = search needs
+q1-number-requires c κs = c .before .before .before .before .before .before .before .pre .0
 
 q2-number-requires : tie.Need-q2-number-requires
-q2-number-requires c κs = search needs
+q2-number-requires c κs = c .before .before .before .before .before .before .before .before .pre .0
 
 gathered-block-requires : tie.Need-gathered-block-requires
 gathered-block-requires c κs =
     let s = c .before .before .before .before .before .before .before .before .before in
     let t = s .pre .0 in
     let set = s .args .set in
-    let index : c .before .before .matrix-index .result < set .o = omega (arith, index-lt t, c .before .before .matrix-index .ensures) in
-    let group1 = group-within (t .bounds) (s .args .abq .now) (s .pre .1 .0 .0) (q1-within t) in
-    let group2 = group-within (t .bounds) (s .args .abq .now) (s .pre .1 .0 .0) (q2-within t) in
-    let more1 = ap (λ g. g * set .l) (c .before .q1-number .ensures) in
-    let more2 = ap (λ g. g * set .l) (c .q2-number .ensures) in
-    ((t .bounds .limits .l-most, sums-within (set .l) index (s .pre .1 .1)), omega (arith, group1, group2, more1, more2))
+    let index : c .before .before .matrix-index .result < set .o = rw (c .before .before .matrix-index .ensures) (index-lt t) in
+    let group1 = group-within (t .bounds) (s .args .abq .now) (s .pre .1 .0 .0) {g = c .before .q1-number .result} (rw (c .before .q1-number .ensures) (q1-within t)) in
+    let group2 = group-within (t .bounds) (s .args .abq .now) (s .pre .1 .0 .0) {g = c .q2-number .result} (rw (c .q2-number .ensures) (q2-within t)) in
+    ((t .bounds .limits .l-most, sums-within (set .l) index (s .pre .1 .1)), (group1, group2))
 
 product-requires : tie.Need-product-requires
 product-requires c κs = omega (arith, c .before .before .before .before .before .before .before .before .before .before .before .before .pre .0 .bounds .limits .l-most)

@@ -3,12 +3,11 @@ use mathlib.Core.Path.{ap}
 use Prim.Native.Nat.{_+_, _*_}
 use Rattle.terms.specs.Places.{few-blocks, a-lt}
 use native.Mathlib.Omega.{arith}
-use borrow.Author.Needs.{needs}
 use Rattle.terms.proofs.places.a_number.Statement.{statement}
 use Rattle.terms.proofs.places.a_number.Tie as tie
 
 term-count-requires : tie.Need-term-count-requires
-term-count-requires c κs = search needs
+term-count-requires c κs = c .pre .bounds
 
 mul-result : tie.Need-mul-result
 mul-result c = omega (arith, ap (λ x. c .before .args .i * x) (c .term-count .ensures), a-lt (c .before .pre), few-blocks (c .before .pre .bounds))

@@ -16,10 +16,10 @@ abbrev μ-loop : tie.MeasureT-loop
 μ-loop abq l count b₀ b = count - b
 
 all-terms-requires : tie.Need-all-terms-requires Inv-loop μ-loop
-all-terms-requires c κs = search needs
+all-terms-requires c κs = c .before .pre .0
 
 mul-count : tie.Need-mul-count Inv-loop μ-loop
-mul-count c = omega (arith, few-blocks (c .before .before .pre .0))
+mul-count c = omega (arith, c .all-terms .ensures, few-blocks (c .before .before .pre .0))
 
 loop-holds : tie.Need-loop-holds Inv-loop μ-loop
 loop-holds c = passing-none
@@ -27,9 +27,8 @@ loop-holds c = passing-none
 invertible-at-requires : tie.Need-invertible-at-requires Inv-loop μ-loop
 invertible-at-requires c κs =
     let s = c .before .before .before .before in
-    let within : c .before .loop .b < 2 * (s .args .set .o * terms (s .args .set)) = omega arith in
-    let fits = block-within (s .pre .0) (s .args .abq .now) (s .pre .1) within in
-    (size-allowed (s .pre .0 .limits), omega arith)
+    let within : c .before .loop .b < 2 * (s .args .set .o * terms (s .args .set)) = omega (arith, c .loop-test .taken, c .before .before .all-terms .ensures) in
+    (size-allowed (s .pre .0 .limits), block-within (s .pre .0) (s .args .abq .now) (s .pre .1) within)
 
 enum-told : tie.Need-enum-told Inv-loop μ-loop
 enum-told c = search needs
@@ -41,11 +40,14 @@ returns : tie.Need-returns Inv-loop μ-loop
 returns c =
     let turn = c .before .before .before in
     let s = turn .before .before .before .before in
-    let within : turn .before .loop .b < 2 * (s .args .set .o * terms (s .args .set)) = omega arith in
+    let within : turn .before .loop .b < 2 * (s .args .set .o * terms (s .args .set)) = omega (arith, turn .loop-test .taken, turn .before .before .all-terms .ensures) in
     passing-stops (s .args .set) (s .args .abq .now) (turn .before .loop .b) within (c .before .before .invertible-at .ensures .answer) (c .enum-told2 .given .1)
 
 add-b : tie.Need-add-b Inv-loop μ-loop
-add-b c = omega (arith, few-blocks (c .before .before .before .before .before .before .before .pre .0))
+add-b c =
+    let turn = c .before .before .before in
+    let at-all-terms = turn .before .before in
+    omega (arith, turn .loop-test .taken, at-all-terms .all-terms .ensures, few-blocks (at-all-terms .before .before .pre .0))
 
 loop-less : tie.Need-loop-less Inv-loop μ-loop
 loop-less c = search needs
