@@ -1,11 +1,6 @@
 -- `sets::count::abq_count` meets its contract: what `terms` answers is put into the products, and the bounds do the rest.
-<<<<<<< HEAD
-use mathlib.Core.Path.{_∙_, ap}
-use Prim.Native.Nat.{_+_, _*_}
-=======
 use mathlib.Core.Path.{sym, _∙_, ap}
 use Prim.Native.Nat.{ℕ, _+_, _*_}
->>>>>>> ec41dda01fa3fcf30eee189122af878f63815132
 use native.Mathlib.Omega.{arith}
 use native.Mathlib.Nat.{mul-le-mul}
 use Rattle.sets.proofs.count.abq_count.Statement.{statement}
