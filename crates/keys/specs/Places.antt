@@ -2,7 +2,7 @@
 -- and no product wraps. Rests on sets' bounds and ground's places.
 use mathlib.Core.Path.{_≡_}
 use Prim.Native.Nat.{ℕ, _+_, _*_, _/_, _%_, _<_, _≤_}
-use native.Mathlib.Nat.{mul-pos, div-lt-iff-lt-mul, mod-lt}
+use native.Mathlib.Nat.{div-lt-iff-lt-mul, mod-lt}
 use native.Mathlib.Omega.{arith}
 use lib.Arith.{digits-lt}
 use Rattle.ground.specs.Place.{row-fits}
@@ -12,29 +12,23 @@ use Rattle.sets.specs.Bounds.{Bounds}
 
 -- ---- the tables
 
--- row y of a table with n block rows, in rows of o·l bytes
-pub record RowTurn (set : Set) (n y : ℕ) : Type 0 where
+pub some-v : {set : Set} → Bounds set → 0 < set .v
+some-v b = omega (arith, b .limits .v-least)
+
+pub some-l : {set : Set} → Bounds set → 0 < set .l
+some-l b = omega (arith, b .limits .l-least)
+
+-- row y of the table of F21, in rows of v·l bytes
+pub record RowTurn (set : Set) (y : ℕ) : Type 0 where
   pub positive : 0 < set .l
-  pub wide : 0 < set .o * set .l
-  pub row : y * (set .o * set .l) + set .o * set .l ≤ n * set .l * (set .o * set .l)
-  pub block : y / set .l < n
+  pub row : y * (set .v * set .l) + set .v * set .l ≤ set .o * set .l * (set .v * set .l)
+  pub block : y / set .l < set .o
   pub entry : y % set .l < set .l
 
-pub row-turn : {set : Set} (n : ℕ) {y : ℕ} → Bounds set → y < n * set .l → RowTurn set n y
-row-turn {set} n {y} b h =
-    let positive : 0 < set .l = omega (arith, b .limits .l-least) in
-    let some : 0 < set .o = omega (arith, b .limits .o-least) in
-    record {
-      positive = positive;
-      wide = mul-pos some positive;
-      row = row-fits (set .o * set .l) h;
-      block = div-lt-iff-lt-mul positive .1 h;
-      entry = mod-lt y positive;
-    }
-
--- column y of a table with n rows of w
-pub column-within : {n w y m : ℕ} → y < w → n * w ≤ m → (x : ℕ) → x < n → y + x * w < m
-column-within hy fits x hx = omega (arith, digits-lt hx hy)
+pub row-turn : {set : Set} {y : ℕ} → Bounds set → y < set .o * set .l → RowTurn set y
+row-turn {set} {y} b h =
+    let positive = some-l b in
+    record { positive = positive; row = row-fits (set .v * set .l) h; block = div-lt-iff-lt-mul positive .1 h; entry = mod-lt y positive }
 
 -- ---- the key
 

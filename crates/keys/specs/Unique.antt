@@ -16,7 +16,7 @@ use Rattle.sets.specs.Sets.{keyCount, keyBytes}
 use Rattle.scheme.specs.Streams.{T12}
 use Rattle.tables.specs.Table.{Holds, Filled, filled-unique}
 use Rattle.keys.specs.Generates.{Generates}
-use Rattle.keys.specs.Parts.{blocks, f12Of, p22Of}
+use Rattle.keys.specs.Parts.{blocks, wideBlocks, f21Of, p22Of}
 use Rattle.keys.specs.Elements.{WritesKey, Spare}
 
 pub unique-generate : (set : Set) (public private : List ℕ) {before : List ℕ} {r r′ : Answer} {after after′ : List ℕ}
@@ -25,17 +25,17 @@ unique-generate set public private a b = unique-writes a b
 
 -- ---- the functions for our own crate
 
-pub unique-f12-table : (set : Set) (public t : List ℕ) (i : ℕ) {before after after′ : List ℕ}
-    → Filled (set .l) (set .o * set .l) (set .v) (set .o) (f12Of set public (blocks set t) i) before after
-    → Filled (set .l) (set .o * set .l) (set .v) (set .o) (f12Of set public (blocks set t) i) before after′ → after ≡ after′
-unique-f12-table set public t i = filled-unique refl
+pub unique-f21-table : (set : Set) (public t : List ℕ) (i : ℕ) {before after after′ : List ℕ}
+    → Filled (set .l) (set .v * set .l) (set .o) (set .v) (f21Of set public (blocks set t) i) before after
+    → Filled (set .l) (set .v * set .l) (set .o) (set .v) (f21Of set public (blocks set t) i) before after′ → after ≡ after′
+unique-f21-table set public t i = filled-unique refl
 
 pub unique-p22-table : (set : Set) (public t f : List ℕ) (i : ℕ) {before after after′ : List ℕ}
-    → Filled (set .l) (set .o * set .l) (set .o) (set .o) (p22Of set public (blocks set t) (blocks set f) i) before after
-    → Filled (set .l) (set .o * set .l) (set .o) (set .o) (p22Of set public (blocks set t) (blocks set f) i) before after′ → after ≡ after′
+    → Filled (set .l) (set .o * set .l) (set .o) (set .o) (p22Of set public (blocks set t) (wideBlocks set f) i) before after
+    → Filled (set .l) (set .o * set .l) (set .o) (set .o) (p22Of set public (blocks set t) (wideBlocks set f) i) before after′ → after ≡ after′
 unique-p22-table set public t f i = filled-unique refl
 
--- the key, where the table holds T12; what the room for F12 and P22 holds afterwards is not promised
+-- the key, where the table holds T12; what the room for F21 and P22 holds afterwards is not promised
 pub unique-write-elements : (set : Set) (public private t : List ℕ) {before after after′ : List ℕ} → Holds (set .l) (set .o * set .l) (set .v) (set .o) t (T12 set private)
     → Bytes after → Bytes after′ → WritesKey set public t before after → WritesKey set public t before after′ → after ≡ after′
 unique-write-elements set public private t table b b′ p q = written-unique b b′ (p .elements private table) (q .elements private table)

@@ -6,7 +6,7 @@ ghost use Rattle.packing.specs.Written.{Written};
 ghost use Rattle.sets.specs.Bounds.{Bounds};
 ghost use Rattle.sets.specs.Sets.{publicBytes, keyBytes};
 ghost use Rattle.keys.specs.Elements.{rowCount, tableElement, WritesKey, Spare};
-use crate::parts::f12_table;
+use crate::parts::f21_table;
 use crate::parts::p22_table;
 use sets::Set;
 
@@ -37,16 +37,16 @@ fn put_p22(key: &mut [u8], set: Set, k: &[u8], i: usize)
     }
 }
 
-// Writes every element of the key, from the table t of T12. f and k are room for the tables of F12 and P22.
+// Writes every element of the key, from the table t of T12. f and k are room for the tables of F21 and P22.
 pub fn write_elements(key: &mut [u8], set: Set, public: &[u8], t: &[u8], f: &mut [u8], k: &mut [u8])
     requires { ⌜ Bounds set ⌝ }
     requires { ⌜ (length (now public) ≡ publicBytes set) × (length (now key) ≡ keyBytes set) × (set .v * set .l * (set .o * set .l) ≤ length (now t)) ⌝ }
-    requires { ⌜ (set .v * set .l * (set .o * set .l) ≤ length (now f)) × (set .o * set .l * (set .o * set .l) ≤ length (now k)) ⌝ }
+    requires { ⌜ (set .o * set .l * (set .v * set .l) ≤ length (now f)) × (set .o * set .l * (set .o * set .l) ≤ length (now k)) ⌝ }
     ensures { λ _. ⌜ WritesKey set (now (public .entry)) (now (t .entry)) (now (key .entry)) (now (key .exit)) ⌝ }
 {
     let mut i = 0;
     while i < set.o {
-        f12_table(f, set, public, t, i);
+        f21_table(f, set, public, t, i);
         p22_table(k, set, public, t, f, i);
         put_p22(key, set, k, i);
         i += 1;

@@ -31,7 +31,7 @@ pub fn generate(set: Set, public: &[u8], private: &[u8], key: &mut [u8]) -> Answ
     ground::answer_of(refusal)
 }
 
-// Writes the whole key: P22 of every i, and zero in the spare half. The tables are those of the powers of S, T12, F12 and P22, for the largest set.
+// Writes the whole key: P22 of every i, and zero in the spare half. The tables are those of the powers of S, T12, F21 and P22, for the largest set.
 fn write_key(key: &mut [u8], set: Set, public: &[u8], private: &[u8])
     requires { ⌜ Bounds set ⌝ }
     requires { ⌜ (length (now public) ≡ publicBytes set) × (length (now private) ≡ privateBytes set) × (length (now key) ≡ keyBytes set) ⌝ }

@@ -1,41 +1,14 @@
--- Where one matrix index's blocks stand in the public stream and its rows in the tables, and that no product of the code wraps.
+-- Where one matrix index's rows stand in the tables, and that no product of the code wraps.
 -- Rests on the bounds of an allowed set.
-use mathlib.Core.Path.{_≡_, sym, subst}
 use Prim.Native.Nat.{ℕ, _+_, _*_, _<_, _≤_}
-use native.Mathlib.Nat.{mul-le-mul, mul-le-mul-right}
+use native.Mathlib.Nat.{mul-le-mul}
 use native.Mathlib.Omega.{arith}
 use Rattle.ground.specs.Place.{row-fits}
 use Rattle.sets.specs.declared.Set.{Set}
-use Rattle.sets.specs.Sets.{mostV, mostL, mostO, mostRow, publicCount, publicBytes}
+use Rattle.sets.specs.Sets.{mostV, mostL, mostO, mostRow}
 use Rattle.sets.specs.Bounds.{Bounds}
-use Rattle.scheme.specs.Streams.{p11Number, p12Number, p21Number}
-
--- the blocks of matrix index i in a public stream of n bytes
-pub record PublicPlaces (set : Set) (i n : ℕ) : Type 0 where
-  pub p11 : (p11Number set i 0 0 + set .v * set .v) * (set .l * set .l) ≤ 2 * n
-  pub p12 : (p12Number set i 0 0 + set .v * set .o) * (set .l * set .l) ≤ 2 * n
-  pub p21 : (p21Number set i 0 0 + set .o * set .v) * (set .l * set .l) ≤ 2 * n
-
-pub public-places : {set : Set} {i n : ℕ} → Bounds set → i < set .o → n ≡ publicBytes set → PublicPlaces set i n
-unfolding publicBytes
-public-places {set} {i} {n} b h e =
-    let v = set .v in
-    let o = set .o in
-    let whole : publicCount set ≤ 2 * n = omega arith in
-    let vv = row-fits (v * v) h in
-    let vo = row-fits (v * o) h in
-    let first : p11Number set i 0 0 + v * v ≤ o * (v * v) = omega arith in
-    let second : p12Number set i 0 0 + v * o ≤ o * (v * v) + o * (v * o) = omega arith in
-    let third : p21Number set i 0 0 + o * v ≤ o * (v * v) + o * (v * o) + o * (v * o) = omega arith in
-    record {
-      p11 = omega (arith, mul-le-mul-right (set .l * set .l) first, b .counts .public);
-      p12 = omega (arith, mul-le-mul-right (set .l * set .l) second, b .counts .public);
-      p21 = omega (arith, mul-le-mul-right (set .l * set .l) third, b .counts .public);
-    }
-
--- a number that was computed, in the place of its definition
-pub number-within : (count size : ℕ) {number n room : ℕ} → n ≡ number → (number + count) * size ≤ room → (n + count) * size ≤ room
-number-within count size {room = room} e h = subst (λ k. (k + count) * size ≤ room) (sym e) h
+use Rattle.tables.specs.Rooms.{v-blocks-room, o-blocks-room}
+pub use Rattle.tables.specs.Numbers.{PublicPlaces, public-places, number-within}
 
 -- products of the set's numbers that the tables' sizes go by
 pub record TableSizes (set : Set) : Type 0 where
@@ -85,8 +58,8 @@ table-sizes {set} b =
       ol = ol;
       oll = omega (arith, l .row);
       ll = p .ll;
-      lvl = omega (arith, p .vll);
-      lol = omega (arith, l .row);
+      lvl = v-blocks-room b;
+      lol = o-blocks-room b;
       llvl = omega (arith, more);
       vlll = omega (arith, more);
       llol = omega (arith, p .olll);

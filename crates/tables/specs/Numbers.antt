@@ -1,6 +1,6 @@
--- Where a block row stands: its first block's number, and that the row lies within its stream.
+-- Where a block row stands: its first block's number, and that the row lies within its stream; and the same of all blocks of one matrix index.
 -- Rests on scheme's numbers of blocks and on the bounds of an allowed set.
-use mathlib.Core.Path.{_≡_}
+use mathlib.Core.Path.{_≡_, sym, subst}
 use mathlib.Core.List.{List}
 use Prim.Native.Nat.{ℕ, _+_, _*_, _<_, _≤_}
 use native.Mathlib.Nat.{mul-le-mul-right}
@@ -62,3 +62,32 @@ module _ {set : Set} (b : Bounds set) where
   key-within key long h =
       let whole : keyCount set ≤ 2 * length key = omega arith in
       omega (arith, mul-le-mul-right (set .l * set .l) h, b .counts .key)
+
+-- ---- one matrix index
+
+-- the blocks of matrix index i in a public stream of n bytes
+pub record PublicPlaces (set : Set) (i n : ℕ) : Type 0 where
+  pub p11 : (p11Number set i 0 0 + set .v * set .v) * (set .l * set .l) ≤ 2 * n
+  pub p12 : (p12Number set i 0 0 + set .v * set .o) * (set .l * set .l) ≤ 2 * n
+  pub p21 : (p21Number set i 0 0 + set .o * set .v) * (set .l * set .l) ≤ 2 * n
+
+pub public-places : {set : Set} {i n : ℕ} → Bounds set → i < set .o → n ≡ publicBytes set → PublicPlaces set i n
+unfolding publicBytes
+public-places {set} {i} {n} b h e =
+    let v = set .v in
+    let o = set .o in
+    let whole : publicCount set ≤ 2 * n = omega arith in
+    let vv = row-fits (v * v) h in
+    let vo = row-fits (v * o) h in
+    let first : p11Number set i 0 0 + v * v ≤ o * (v * v) = omega arith in
+    let second : p12Number set i 0 0 + v * o ≤ o * (v * v) + o * (v * o) = omega arith in
+    let third : p21Number set i 0 0 + o * v ≤ o * (v * v) + o * (v * o) + o * (v * o) = omega arith in
+    record {
+      p11 = omega (arith, mul-le-mul-right (set .l * set .l) first, b .counts .public);
+      p12 = omega (arith, mul-le-mul-right (set .l * set .l) second, b .counts .public);
+      p21 = omega (arith, mul-le-mul-right (set .l * set .l) third, b .counts .public);
+    }
+
+-- a number that was computed, in the place of its definition
+pub number-within : (count size : ℕ) {number n room : ℕ} → n ≡ number → (number + count) * size ≤ room → (n + count) * size ≤ room
+number-within count size {room = room} e h = subst (λ k. (k + count) * size ≤ room) (sym e) h

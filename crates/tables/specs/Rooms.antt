@@ -20,6 +20,17 @@ module _ {set : Set} (b : Bounds set) where
   pub private-room : set .v * set .l * (set .o * set .l) ≤ 12000
   private-room = omega (arith, b .products .voll)
 
+  -- l rows of v blocks, and of o blocks
+  pub v-blocks-room : set .l * (set .v * set .l) ≤ 1200
+  v-blocks-room = omega (arith, b .products .vll)
+
+  pub o-blocks-room : set .l * (set .o * set .l) ≤ 1200
+  o-blocks-room = omega (arith, b .limits .row)
+
+  -- F21 of one i: o·l rows of v·l bytes, as many bytes as T12 has
+  pub f21-room : set .o * set .l * (set .v * set .l) ≤ 12000
+  f21-room = omega (arith, private-room)
+
   -- P22 of one i: o·l rows of o·l bytes
   pub key-room : set .o * set .l * (set .o * set .l) ≤ 5280
   key-room = omega (arith, b .products .ooll)

@@ -2,7 +2,7 @@
 -- Nothing is asked of what the tables hold before.
 use mathlib.Core.Path.{_∙_}
 use Rattle.packing.specs.Packing.{Bytes}
-use Rattle.tables.specs.Rooms.{kept-room, powers-room, private-room, key-room}
+use Rattle.tables.specs.Rooms.{kept-room, powers-room, private-room, f21-room, key-room}
 use Rattle.keys.specs.Elements.{key-whole}
 use borrow.Author.Needs.{needs}
 use native.Mathlib.Omega.{arith}
@@ -44,7 +44,7 @@ write-elements-requires c κs =
     let begin = c .before .before .before .before .before .before .before .before .before .before .before .before .before .before in
     let b = begin .pre .0 in
     let t = kept-room (private-room b) (c .before .before .before .before .before .private-table .ensures .long) in
-    (b, ((begin .pre .1 .0, begin .pre .1 .2, t), (private-room b, key-room b)))
+    (b, ((begin .pre .1 .0, begin .pre .1 .2, t), (f21-room b, key-room b)))
 
 clear-spare-requires : tie.Need-clear-spare-requires
 clear-spare-requires c κs =

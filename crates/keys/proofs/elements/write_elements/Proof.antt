@@ -2,7 +2,7 @@
 use mathlib.Core.Path.{_≡_, refl, _∙_}
 use Prim.Native.Nat.{_-_}
 use lib.ListN.{length}
-use Rattle.keys.specs.Parts.{f12-holds, p22-holds}
+use Rattle.keys.specs.Parts.{f21-holds, p22-holds}
 use Rattle.keys.specs.Elements.{Writing, writing-none, writing-next, writing-end}
 use native.Mathlib.Omega.{arith}
 use Rattle.keys.proofs.elements.write_elements.Statement.{statement}
@@ -17,8 +17,8 @@ abbrev μ-loop : tie.MeasureT-loop
 loop-holds : tie.Need-loop-holds Inv-loop μ-loop
 loop-holds c = (writing-none, refl, refl)
 
-f12-table-requires : tie.Need-f12-table-requires Inv-loop μ-loop
-f12-table-requires c κs =
+f21-table-requires : tie.Need-f21-table-requires Inv-loop μ-loop
+f21-table-requires c κs =
     let begin = c .before .before .before .before .before .before .before .before .before in
     (begin .pre .0, ((c .before .if1 .taken, begin .pre .1 .0 .0), (omega (arith, c .before .before .before .loop .inv .1, begin .pre .1 .1 .0), begin .pre .1 .0 .2)))
 
@@ -26,7 +26,7 @@ p22-table-requires : tie.Need-p22-table-requires Inv-loop μ-loop
 p22-table-requires c κs =
     let begin = c .before .before .before .before .before .before .before .before .before .before .before .before .before .before in
     let loop = c .before .before .before .before .before .before .before .before .loop in
-    (begin .pre .0, ((c .before .before .before .before .before .before .if1 .taken, begin .pre .1 .0 .0), (omega (arith, loop .inv .2, begin .pre .1 .1 .1), begin .pre .1 .0 .2, omega (arith, loop .inv .1, c .before .before .before .before .f12-table .ensures .long, begin .pre .1 .1 .0))))
+    (begin .pre .0, ((c .before .before .before .before .before .before .if1 .taken, begin .pre .1 .0 .0), (omega (arith, loop .inv .2, begin .pre .1 .1 .1), begin .pre .1 .0 .2, omega (arith, loop .inv .1, c .before .before .before .before .f21-table .ensures .long, begin .pre .1 .1 .0))))
 
 put-p22-requires : tie.Need-put-p22-requires Inv-loop μ-loop
 put-p22-requires c κs =
@@ -45,15 +45,15 @@ loop-again : tie.Need-loop-again Inv-loop μ-loop
 loop-again c =
     let begin = c .before .before .before .before .before .before .before .before .before .before .before .before .before .before .before .before .before .before .before .before .before .before in
     let p22-table = c .before .before .before .before .before .before .before .p22-table in
-    let f12-table = c .before .before .before .before .before .before .before .before .before .before .before .before .f12-table in
+    let f21-table = c .before .before .before .before .before .before .before .before .before .before .before .before .f21-table in
     let loop = c .before .before .before .before .before .before .before .before .before .before .before .before .before .before .before .before .loop in
     let set = begin .args .set in
     let public = begin .args .public .now in
     let i = loop .i in (
       writing-next (loop .inv .0) (c .before .before .before .before .before .before .before .before .before .before .before .before .before .before .if1 .taken)
-          (λ private h. p22-holds set public private i h (f12-holds set public private i h (f12-table .ensures .holds)) (p22-table .ensures .holds))
+          (λ private h. p22-holds set public private i h (f21-holds set public private i h (f21-table .ensures .holds)) (p22-table .ensures .holds))
           (c .before .before .put-p22 .ensures),
-      f12-table .ensures .long ∙ loop .inv .1,
+      f21-table .ensures .long ∙ loop .inv .1,
       p22-table .ensures .long ∙ loop .inv .2,
     )
 
@@ -76,7 +76,7 @@ write-elements-spec =
     Inv-loop
     μ-loop
     loop-holds
-    f12-table-requires
+    f21-table-requires
     p22-table-requires
     put-p22-requires
     add-i

@@ -4,8 +4,9 @@ use lib.ListN.{length}
 use Rattle.rows.specs.Zero.{length-zeros, zero-at}
 use Rattle.rows.specs.PlusRows.{rows-then}
 use Rattle.tables.specs.Rooms.{kept-room}
+use Rattle.tables.specs.Numbers.{PublicPlaces, public-places, number-within}
 use Rattle.tables.specs.Sums.{left-at, zero-rows, times-loaded}
-use Rattle.system.specs.Places.{PublicPlaces, public-places, number-within, TableSizes, table-sizes}
+use Rattle.system.specs.Places.{TableSizes, table-sizes}
 use native.Mathlib.Omega.{arith}
 use borrow.Author.Needs.{needs}
 use Rattle.system.proofs.left.add_left_index.Statement.{statement}
