@@ -11,6 +11,7 @@ use Rattle.scheme.specs.Streams.{T12}
 use Rattle.scheme.specs.Regroup.{powerTimes}
 use Rattle.rows.specs.Plus.{Plus, plus-unique}
 use Rattle.rows.specs.PlusRows.{PlusRows, rows-unique}
+use Rattle.words.specs.Multiples.{Multiples}
 use Rattle.tables.specs.Numbers.{Starts}
 use Rattle.tables.specs.Table.{Filled, filled-unique}
 use Rattle.tables.specs.Gains.{blocksRow, productRow}
@@ -56,6 +57,12 @@ unique-add-times d scalars src at n m count = rows-unique
 pub unique-add-left : (d x stream : List ℕ) (at l v m number count : ℕ) {t u : List ℕ}
     → PlusRows d at m (count * l) (leftGain l v x m stream number count) t → PlusRows d at m (count * l) (leftGain l v x m stream number count) u → t ≡ u
 unique-add-left d x stream at l v m number count = rows-unique
+
+-- the rows, where the words are the multiples of some table
+pub unique-add-blocks : (d stream src multiples : List ℕ) (at n number l count first : ℕ) {t u : List ℕ} → Multiples n ((first + count) * l) src multiples
+    → ((s : List ℕ) → Multiples n ((first + count) * l) s multiples → PlusRows d at l n (λ r. productRow l stream number r count s n first) t)
+    → ((s : List ℕ) → Multiples n ((first + count) * l) s multiples → PlusRows d at l n (λ r. productRow l stream number r count s n first) u) → t ≡ u
+unique-add-blocks d stream src multiples at n number l count first m p q = rows-unique (p src m) (q src m)
 
 pub unique-lay-blocks : (stream : List ℕ) (l number count : ℕ) {place place′ : ℕ} {flat flat′ : List ℕ} → Laid l count stream number place flat
     → Laid l count stream number place′ flat′ → (k r c : ℕ) → k < count → r < l → c < l
