@@ -15,6 +15,9 @@ use Rattle.sets.specs.Bounds.{Bounds}
 pub some-v : {set : Set} → Bounds set → 0 < set .v
 some-v b = omega (arith, b .limits .v-least)
 
+pub some-o : {set : Set} → Bounds set → 0 < set .o
+some-o b = omega (arith, b .limits .o-least)
+
 pub some-l : {set : Set} → Bounds set → 0 < set .l
 some-l b = omega (arith, b .limits .l-least)
 
@@ -44,8 +47,8 @@ pub record PutTurn (set : Set) (i q : ℕ) : Type 0 where
 
 pub put-turn : {set : Set} {i q : ℕ} → Bounds set → i < set .o → q < set .o * set .o * set .l → PutTurn set i q
 put-turn {set} {i} {q} b hi hq =
-    let positive : 0 < set .l = omega (arith, b .limits .l-least) in
-    let some : 0 < set .o = omega (arith, b .limits .o-least) in
+    let positive = some-l b in
+    let some = some-o b in
     let number : i * (set .o * set .o * set .l) + q < set .o * (set .o * set .o * set .l) = digits-lt hi hq in
     let block : q / set .l / set .o < set .o = div-lt-iff-lt-mul some .1 (div-lt-iff-lt-mul positive .1 hq) in
     let row : q / set .l / set .o * set .l + q % set .l < set .o * set .l = digits-lt block (mod-lt q positive) in

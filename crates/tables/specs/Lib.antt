@@ -5,6 +5,7 @@ pub mod Gains
 pub mod Laid
 pub mod Entries
 pub mod Sums
+pub mod Columns
 pub mod Turns
 pub mod Unpacked
 pub mod RingRows

@@ -1,4 +1,4 @@
--- No second outcome meets a contract of this crate: every lent buffer is fixed by what went in. Of what `load_blocks` leaves, the blocks' rows
+-- No second outcome meets a contract of this crate: every lent buffer is fixed by what went in. Of what `lay_blocks` and `load_blocks` leave, the blocks
 -- are fixed, and nothing else is read. Rests on rows' Plus and PlusRows, on Filled and on Unpacked.
 use mathlib.Core.Path.{_≡_, refl, sym, _∙_}
 use mathlib.Core.List.{List}
@@ -16,6 +16,7 @@ use Rattle.tables.specs.Numbers.{Starts}
 use Rattle.tables.specs.Table.{Filled, filled-unique}
 use Rattle.tables.specs.Gains.{blocksRow, productRow}
 use Rattle.tables.specs.Unpacked.{Unpacked, unpacked-unique, listOf}
+use Rattle.tables.specs.Laid.{Laid}
 use Rattle.tables.specs.Sums.{HasRows, transposedGain, timesGain, rowsOf, leftGain}
 
 pub unique-number-of-row : {blocks number count n m : ℕ} → Starts blocks number count n → Starts blocks number count m → n ≡ m
@@ -58,6 +59,11 @@ unique-add-times d scalars src at n m count = rows-unique
 pub unique-add-left : (d x stream : List ℕ) (at l v m number count : ℕ) {t u : List ℕ}
     → PlusRows d at m (count * l) (leftGain l v x m stream number count) t → PlusRows d at m (count * l) (leftGain l v x m stream number count) u → t ≡ u
 unique-add-left d x stream at l v m number count = rows-unique
+
+pub unique-lay-blocks : (stream : List ℕ) (l number count : ℕ) {place place′ : ℕ} {flat flat′ : List ℕ} → Laid l count stream number place flat
+    → Laid l count stream number place′ flat′ → (k r c : ℕ) → k < count → r < l → c < l
+    → getD flat (place + r * l + c + k * (l * l)) 0 ≡ getD flat′ (place′ + r * l + c + k * (l * l)) 0
+unique-lay-blocks stream l number count p q k r c hk hr hc = p .entry k r c hk hr hc ∙ sym (q .entry k r c hk hr hc)
 
 pub unique-load-blocks : (stream : List ℕ) (l number count : ℕ) {t u : List ℕ}
     → HasRows l (count * l) (blocksRow l stream number) t → HasRows l (count * l) (blocksRow l stream number) u

@@ -9,10 +9,10 @@ ghost use Rattle.tables.specs.Gains.{productRow};
 ghost use Rattle.tables.specs.Laid.{Laid};
 
 // Room for the elements of v blocks, one to a byte, from place 0 or 1 on, and for one block more.
-const FLAT: usize = 1216;
+pub const FLAT: usize = 1216;
 
 // Lays the elements of count blocks of the stream into flat, one to a byte, from the place on that is answered: 1 where the first block begins in the middle of a byte.
-fn lay_blocks(flat: &mut [u8], stream: &[u8], number: usize, l: usize, count: usize) -> usize
+pub fn lay_blocks(flat: &mut [u8], stream: &[u8], number: usize, l: usize, count: usize) -> usize
     requires { ⌜ ((number + count) * (l * l) ≤ 2 * length (now stream)) × ((count * (l * l) + 2 ≤ length (now flat)) × ((0 < count) × (0 < l))) ⌝ }
     ensures { λ place. ⌜ Laid l count (now (stream .entry)) number place (now (flat .exit)) ⌝ }
 {

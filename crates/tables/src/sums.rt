@@ -1,11 +1,13 @@
 // Products of whole byte tables, added row by row: a table transposed times a table, a table times a table, and a table transposed times the blocks of a stream.
 ghost use mathlib.Core.Path.{_≡_};
 ghost use Prim.Native.Nat.{ℕ, _+_, _*_, _<_, _≤_};
-ghost use lib.ListN.{length};
+ghost use lib.ListN.{length, getD};
 ghost use Rattle.rows.specs.PlusRows.{PlusRows};
 ghost use Rattle.tables.specs.Gains.{blocksRow};
+ghost use Rattle.tables.specs.Columns.{Column};
 ghost use Rattle.tables.specs.Sums.{HasRows, transposedGain, timesGain, rowsOf, leftGain};
-use super::add_block_row;
+use super::products::FLAT;
+use super::products::lay_blocks;
 
 // Room for l rows of v blocks, or of o blocks.
 const BUFFER: usize = 1200;
@@ -51,17 +53,43 @@ pub fn add_times(
     }
 }
 
-// dst becomes the l rows of count blocks of the stream from block number on, and zeros behind them.
+// dst[at + k·stride] becomes src[from + k·step], for each k below count.
+fn copy_column(
+    dst: &mut [u8],
+    at: usize,
+    stride: usize,
+    src: &[u8],
+    from: usize,
+    step: usize,
+    count: usize,
+)
+    requires { ⌜ ((k : ℕ) → k < count → (at + k * stride < length (now dst)) × (from + k * step < length (now src))) ⌝ }
+    requires { ⌜ 0 < stride ⌝ }
+    ensures { λ _. ⌜ Column (now (dst .entry)) at stride count (λ k. getD (now (src .entry)) (from + k * step) 0) (now (dst .exit)) ⌝ }
+{
+    let mut k = 0;
+    while k < count {
+        dst[at + k * stride] = src[from + k * step];
+        k += 1;
+    }
+}
+
+// The first bytes of dst become the l rows of count blocks of the stream from block number on. The blocks are laid element after element first, and then entry (r, c)
+// of all of them is copied at once: the entries of one row of one block are too few to go by.
 pub fn load_blocks(dst: &mut [u8], l: usize, stream: &[u8], number: usize, count: usize)
     requires { ⌜ (l * (count * l) ≤ length (now dst)) × (((number + count) * (l * l) ≤ 2 * length (now stream)) × (0 < l)) ⌝ }
+    requires { ⌜ (l * (count * l) ≤ 1200) × (0 < count) ⌝ }
     ensures { λ _. ⌜ HasRows l (count * l) (blocksRow l (now (stream .entry)) number) (now (dst .exit)) ⌝ }
 {
-    rows::clear(dst);
+    let mut flat = [0u8; FLAT];
+    let place = lay_blocks(&mut flat, stream, number, l, count);
     let n = count * l;
-    let mut r = 0;
-    while r < l {
-        add_block_row(dst, r * n, stream, number, l, r, count);
-        r += 1;
+    let size = l * l;
+    let mut e = 0;
+    while e < size {
+        // entry (r, c), where e = r·l + c
+        copy_column(dst, e / l * n + e % l, l, &flat, place + e, size, count);
+        e += 1;
     }
 }
 
@@ -79,7 +107,7 @@ pub fn add_left(
     count: usize,
 )
     requires { ⌜ (at + m * (count * l) ≤ length (now dst)) × ((v * l * m ≤ length (now x)) × ((number + v * count) * (l * l) ≤ 2 * length (now stream))) ⌝ }
-    requires { ⌜ (l * (count * l) ≤ 1200) × (0 < l) ⌝ }
+    requires { ⌜ (l * (count * l) ≤ 1200) × ((0 < l) × (0 < count)) ⌝ }
     ensures { λ _. ⌜ PlusRows (now (dst .entry)) at m (count * l) (leftGain l v (now (x .entry)) m (now (stream .entry)) number count) (now (dst .exit)) ⌝ }
 {
     let n = count * l;

@@ -31,8 +31,8 @@ add-left-requires c κs =
     let set = s .args .set in
     let places = public-places (s .pre .0) (s .pre .1 .0 .0) (s .pre .1 .0 .1) in
     let room = kept-room (kept-room (s .pre .1 .1 .0) (c .before .before .before .before .before .before .before .clear .kept .0)) (c .before .before .before .add-p21 .kept .0) in (
-      (omega (arith, room), (omega (arith, s .pre .1 .1 .1), omega (arith, number-within (set .v * set .v) (set .l * set .l) (c .before .before .before .before .before .before .before .before .before .p11-number .ensures .is) (places .p11)))),
-      (v-blocks-room (s .pre .0), some-l (s .pre .0)),
+      (omega (arith, room), (omega (arith, s .pre .1 .1 .1), number-within (set .v * set .v) (set .l * set .l) (c .before .before .before .before .before .before .before .before .before .p11-number .ensures .is) (places .p11))),
+      (v-blocks-room (s .pre .0), (some-l (s .pre .0), some-v (s .pre .0))),
     )
 
 same-length : tie.Need-same-length

@@ -2,7 +2,7 @@
 use Prim.Native.Nat.{_*_}
 use Rattle.tables.specs.Numbers.{public-places, number-within}
 use Rattle.tables.specs.Rooms.{kept-room, o-blocks-room}
-use Rattle.keys.specs.Places.{some-v, some-l}
+use Rattle.keys.specs.Places.{some-v, some-o, some-l}
 use Rattle.keys.specs.Parts.{p22-filled}
 use borrow.Author.Needs.{needs}
 use native.Mathlib.Omega.{arith}
@@ -27,7 +27,7 @@ add-left-requires c κs =
     let places = public-places (s .pre .0) (s .pre .1 .0 .0) (s .pre .1 .0 .1) in
     let room = kept-room (s .pre .1 .1 .0) (c .before .before .before .clear .kept .0) in (
       (omega (arith, room), (s .pre .1 .1 .1, number-within (set .v * set .o) (set .l * set .l) (c .before .before .before .before .before .p12-number .ensures .is) (places .p12))),
-      (o-blocks-room (s .pre .0), some-l (s .pre .0)),
+      (o-blocks-room (s .pre .0), (some-l (s .pre .0), some-o (s .pre .0))),
     )
 
 mul-add-times : tie.Need-mul-add-times

@@ -40,7 +40,7 @@ add-left-requires c κs =
     let s = c .before .before .before .before .before .before .before in
     let set = s .args .set in (
       (omega (arith, sizes s .llvl, length-zeros 4800), (s .pre .1 .1 .0, number-within (set .v * set .v) (set .l * set .l) (c .before .before .p11-number .ensures .is) (places s .p11))),
-      (sizes s .lvl, sizes s .positive-l),
+      (sizes s .lvl, (sizes s .positive-l, sizes s .positive-v)),
     )
 
 add-left-requires-2 : tie.Need-add-left-requires-2
@@ -48,7 +48,7 @@ add-left-requires-2 c κs =
     let s = c .before .before .before .before .before .before .before .before .before .before in
     let set = s .args .set in (
       (s .pre .0 .1 .1, (s .pre .1 .1 .0, number-within (set .v * set .o) (set .l * set .l) (c .before .before .before .before .p12-number .ensures .is) (places s .p12))),
-      (sizes s .lol, sizes s .positive-l),
+      (sizes s .lol, (sizes s .positive-l, sizes s .positive-o)),
     )
 
 mul-add-times : tie.Need-mul-add-times

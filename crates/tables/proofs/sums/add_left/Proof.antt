@@ -26,12 +26,12 @@ start c = c .before .before .before .before .before
 turn : (c : tie.In-loop Inv-loop μ-loop) → LeftTurn (start c .args .l) (start c .args .m) (start c .args .number) (start c .args .v) (start c .args .count) (c .before .loop .j)
 turn c =
     let a = start c .args in
-    left-turn (a .l) (a .m) (a .number) (a .v) (a .count) (start c .pre .1 .1) (c .loop-test .taken)
+    left-turn (a .l) (a .m) (a .number) (a .v) (a .count) (start c .pre .1 .1 .0) (c .loop-test .taken)
 
 mul-n : tie.Need-mul-n Inv-loop μ-loop
 mul-n c =
     let s = c .before .before .before in
-    omega (arith, le-mul-of-pos-right (s .args .count * s .args .l) (s .pre .1 .1))
+    omega (arith, le-mul-of-pos-right (s .args .count * s .args .l) (s .pre .1 .1 .0))
 
 loop-holds : tie.Need-loop-holds Inv-loop μ-loop
 loop-holds c = (length-zeros 1200, summing-none)
