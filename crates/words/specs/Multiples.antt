@@ -17,7 +17,7 @@ use lib.Bits.{bitXor}
 use lib.Pow.{mod-pow-add}
 use Rattle.field.specs.Field.{add, mul}
 use Rattle.field.specs.Laws.{mul-lt, mul-mod-left, add-mul}
-use Rattle.words.specs.Words.{wordOf, word-add, word-cong, word-none, word-next, word-room}
+use Rattle.words.specs.Words.{wordOf, word-cong, word-none, word-next, word-room}
 
 -- the word of p times row[at..at + n]
 unfoldable pub multipleOf : (n : ℕ) (row : List ℕ) (at p : ℕ) → ℕ

@@ -1,6 +1,6 @@
 -- `sets::count::abq_count` meets its contract: what `terms` answers is put into the products, and the bounds do the rest.
 use mathlib.Core.Path.{sym, _∙_, ap}
-use Prim.Native.Nat.{ℕ, _+_, _*_}
+use Prim.Native.Nat.{_+_, _*_}
 use native.Mathlib.Omega.{arith}
 use native.Mathlib.Nat.{mul-le-mul}
 use Rattle.sets.proofs.count.abq_count.Statement.{statement}

@@ -1,6 +1,6 @@
 -- `tables::sums::load_blocks` meets its contract. The invariant: the first e entries of each block are copied. Rests on Columns and Laid.
 use mathlib.Core.Path.{_≡_, refl, _∙_}
-use Prim.Native.Nat.{_+_, _*_, _-_, _≤_}
+use Prim.Native.Nat.{_*_, _-_, _≤_}
 use native.Mathlib.Nat.{le-mul-of-pos-right}
 use lib.ListN.{length}
 use Rattle.tables.specs.Laid.{block-room}
