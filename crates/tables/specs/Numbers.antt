@@ -63,6 +63,32 @@ module _ {set : Set} (b : Bounds set) where
       let whole : keyCount set ≤ 2 * length key = omega arith in
       omega (arith, mul-le-mul-right (set .l * set .l) h, b .counts .key)
 
+-- ---- what the code forms on the way to a number: everything stays small
+
+-- row j of matrix i, where each matrix has a rows of b blocks
+pub record RowNumber (a b i j : ℕ) : Type 0 where
+  pub matrix : i * a ≤ 400000
+  pub row : i * a + j ≤ 400000
+  pub block : (i * a + j) * b ≤ 400000
+
+row-number : (b : ℕ) {a o i j : ℕ} → i < o → j < a → o * a ≤ 400000 → o * a * b ≤ 400000 → RowNumber a b i j
+row-number b hi hj rows blocks =
+    let row = digits-lt hi hj in
+    record { matrix = omega (arith, row); row = omega (arith, row); block = omega (arith, row-fits b row) }
+
+module _ {set : Set} (b : Bounds set) {i j : ℕ} (hi : i < set .o) where
+  pub p11-row : j < set .v → RowNumber (set .v) (set .v) i j
+  p11-row hj = row-number (set .v) hi hj (omega (arith, b .products .vo)) (omega (arith, b .products .vvo))
+
+  pub p12-row : j < set .v → RowNumber (set .v) (set .o) i j
+  p12-row hj = row-number (set .o) hi hj (omega (arith, b .products .vo)) (omega (arith, b .products .voo))
+
+  pub p21-row : j < set .o → RowNumber (set .o) (set .v) i j
+  p21-row hj = row-number (set .v) hi hj (omega (arith, b .products .oo)) (omega (arith, b .products .voo))
+
+  pub p22-row : j < set .o → RowNumber (set .o) (set .o) i j
+  p22-row hj = row-number (set .o) hi hj (omega (arith, b .products .oo)) (omega (arith, b .products .ooo))
+
 -- ---- one matrix index
 
 -- the blocks of matrix index i in a public stream of n bytes

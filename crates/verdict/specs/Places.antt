@@ -7,9 +7,27 @@ use native.Mathlib.Nat.{mul-le-mul, mul-le-mul-right}
 use native.Mathlib.Decide.{decLt}
 use native.Mathlib.Omega.{arith}
 use lib.ListN.{length}
+use Rattle.ground.specs.Place.{row-fits}
 use Rattle.sets.specs.declared.Set.{Set}
 use Rattle.sets.specs.Sets.{variables, targetCount, signatureCount, targetBytes, signatureBytes}
 use Rattle.sets.specs.Bounds.{Bounds}
+use Rattle.tables.specs.Rooms.{sums-room}
+
+-- ---- places in a table
+
+-- the rows of one matrix index lie within the table of power sums
+pub index-within : (l : ℕ) {o i n : ℕ} → i < o → o * (l * l) * (l * l) ≤ n → i * (l * l) * (l * l) + l * l * (l * l) ≤ n
+index-within l {o} {i} h fits = let next : i + 1 ≤ o = omega arith in omega (arith, mul-le-mul-right (l * l * (l * l)) next)
+
+-- block row j of a table of n block rows
+pub block-row-within : (l : ℕ) {j n m : ℕ} → j < n → n * l * (l * l) ≤ m → (j + 1) * l * (l * l) ≤ m
+block-row-within l {j} {n} h fits = let next : j + 1 ≤ n = omega arith in omega (arith, mul-le-mul-right (l * (l * l)) next)
+
+-- the products on the way to the place of matrix index i in the table of power sums
+pub record IndexPlace (l i : ℕ) : Type 0 where
+  pub square : l * l ≤ 16
+  pub rows : i * (l * l) ≤ 160
+  pub place : i * (l * l) * (l * l) ≤ 2560
 
 -- ---- streams of the exact length
 
@@ -28,6 +46,17 @@ module _ {set : Set} (b : Bounds set) where
       omega (arith, b .counts .signature)
 
   -- ---- tables within their buffers
+
+  -- an index of a variable stays small
+  pub few-variables : variables set ≤ 108
+  few-variables = omega (arith, b .limits .v-most, b .limits .o-most)
+
+  pub index-place : {i : ℕ} → i < set .o → IndexPlace (set .l) i
+  index-place h = record {
+    square = b .products .ll;
+    rows = omega (arith, row-fits (set .l * set .l) h, b .limits .row);
+    place = omega (arith, index-within (set .l) h (sums-room b));
+  }
 
   pub list-room : variables set * (set .l * set .l) ≤ 1360
   list-room = omega (arith, b .products .vll, b .limits .row)
@@ -51,11 +80,3 @@ module _ {set : Set} (b : Bounds set) where
   -- a row of l·l elements is a word
   pub square-room : set .l * set .l ≤ 16
   square-room = b .products .ll
-
--- the rows of one matrix index lie within the table of power sums
-pub index-within : (l : ℕ) {o i n : ℕ} → i < o → o * (l * l) * (l * l) ≤ n → i * (l * l) * (l * l) + l * l * (l * l) ≤ n
-index-within l {o} {i} h fits = let next : i + 1 ≤ o = omega arith in omega (arith, mul-le-mul-right (l * l * (l * l)) next)
-
--- block row j of a table of n block rows
-pub block-row-within : (l : ℕ) {j n m : ℕ} → j < n → n * l * (l * l) ≤ m → (j + 1) * l * (l * l) ≤ m
-block-row-within l {j} {n} h fits = let next : j + 1 ≤ n = omega arith in omega (arith, mul-le-mul-right (l * (l * l)) next)

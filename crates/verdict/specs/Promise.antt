@@ -36,24 +36,29 @@ numberOf (Refused n) = n
 refused-is : (n : ℕ) (ok : Bool) → (n ≡ 0 → ⊥) → Refused n ≡ verdictOf n ok
 refused-is n ok not-zero = rw (ne-eqb n 0 not-zero)
 
+-- the lowest refusal that the lengths alone give
+abbrev pub byLengths : Set → (public abq target key signature : List ℕ) → ℕ
+byLengths set public abq target key signature = lowest (verdictRules set (length public) (length abq) (length target) (length key) (length signature))
+
 module _ (set : Set) (public abq target key signature : List ℕ) (ok : Bool) where
   -- the lengths' refusal
-  pub refused-lengths : {n : ℕ} → n ≡ lowest (verdictRules set (length public) (length abq) (length target) (length key) (length signature)) → (n ≡ 0 → ⊥)
+  pub refused-lengths : {n : ℕ} → n ≡ byLengths set public abq target key signature → (n ≡ 0 → ⊥)
       → Refused n ≡ verdictOf (lowest (verdictRefusals set public abq target key signature)) ok
   unfolding verdictRefusals
   refused-lengths {n} is not-zero =
-      refused-is n ok not-zero
-      ∙ ap (λ m. verdictOf m ok) (is ∙ sym (lowest-stands (verdictRules set (length public) (length abq) (length target) (length key) (length signature)) _ (λ z. not-zero (is ∙ z))))
+      let rules = verdictRules set (length public) (length abq) (length target) (length key) (length signature) in
+      let stands = lowest-stands rules (unless 21 (allInvertible set abq) ∷ []) (λ z. not-zero (is ∙ z)) in
+      refused-is n ok not-zero ∙ ap (λ m. verdictOf m ok) (is ∙ sym stands)
 
   -- where the lengths pass, 21 decides
-  after-lengths : {n : ℕ} → n ≡ lowest (verdictRules set (length public) (length abq) (length target) (length key) (length signature)) → n ≡ 0
+  after-lengths : {n : ℕ} → n ≡ byLengths set public abq target key signature → n ≡ 0
       → lowest (verdictRefusals set public abq target key signature) ≡ lowest (unless 21 (allInvertible set abq) ∷ [])
   unfolding verdictRefusals
   after-lengths is zero =
       lowest-append (unless 21 (allInvertible set abq) ∷ []) (verdict-met set (length public) (length abq) (length target) (length key) (length signature) (sym is ∙ zero))
 
   -- 21, handed up
-  pub refused-21 : {n k number : ℕ} {a : Answer} → n ≡ lowest (verdictRules set (length public) (length abq) (length target) (length key) (length signature)) → n ≡ 0
+  pub refused-21 : {n k number : ℕ} {a : Answer} → n ≡ byLengths set public abq target key signature → n ≡ 0
       → a ≡ answerOf (lowest (unless 21 (allInvertible set abq) ∷ [])) → a ≡ AnswerRefused k → number ≡ answerNumber a
       → Refused number ≡ verdictOf (lowest (verdictRefusals set public abq target key signature)) ok
   refused-21 {number = number} is zero answer refused number-is =
@@ -61,7 +66,7 @@ module _ (set : Set) (public abq target key signature : List ℕ) (ok : Bool) wh
       refused-is number ok (λ z. answer-refused _ answer refused (sym same ∙ z)) ∙ ap (λ m. verdictOf m ok) (same ∙ sym (after-lengths is zero))
 
   -- no refusal: the comparison decides
-  pub compared : {n : ℕ} {a : Answer} {x : Bool} → n ≡ lowest (verdictRules set (length public) (length abq) (length target) (length key) (length signature)) → n ≡ 0
+  pub compared : {n : ℕ} {a : Answer} {x : Bool} → n ≡ byLengths set public abq target key signature → n ≡ 0
       → a ≡ answerOf (lowest (unless 21 (allInvertible set abq) ∷ [])) → a ≡ Done → x ≡ ok
       → pick x Accepted NotAccepted ≡ verdictOf (lowest (verdictRefusals set public abq target key signature)) ok
   compared is zero answer done x-is =

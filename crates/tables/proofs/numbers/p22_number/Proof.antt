@@ -1,24 +1,20 @@
 -- `tables::numbers::p22_number` meets its contract: the block row lies within its stream, which has few blocks.
-use lib.Arith.{digits-lt}
-use Rattle.tables.specs.Numbers.{starts, p22-fits, few-key}
+use Rattle.tables.specs.Numbers.{starts, p22-fits, RowNumber, p22-row}
 use native.Mathlib.Omega.{arith}
 use Rattle.tables.proofs.numbers.p22_number.Statement.{statement}
 use Rattle.tables.proofs.numbers.p22_number.Tie as tie
 
+row : (s : tie.Start) → RowNumber (s .args .set .o) (s .args .set .o) (s .args .i) (s .args .k)
+row s = p22-row (s .pre .0) (s .pre .1) (s .pre .2)
+
 mul-result : tie.Need-mul-result
-mul-result c =
-    let s = c .before in
-    omega (arith, p22-fits (s .args .set) (s .pre .1) (s .pre .2), digits-lt (s .pre .1) (s .pre .2), few-key (s .pre .0), s .pre .0 .products .oo)
+mul-result c = omega (arith, row (c .before) .matrix)
 
 add-result : tie.Need-add-result
-add-result c =
-    let s = c .before in
-    omega (arith, p22-fits (s .args .set) (s .pre .1) (s .pre .2), digits-lt (s .pre .1) (s .pre .2), few-key (s .pre .0), s .pre .0 .products .oo)
+add-result c = omega (arith, row (c .before) .row)
 
 mul-result-2 : tie.Need-mul-result-2
-mul-result-2 c =
-    let s = c .before .before in
-    omega (arith, p22-fits (s .args .set) (s .pre .1) (s .pre .2), digits-lt (s .pre .1) (s .pre .2), few-key (s .pre .0), s .pre .0 .products .oo)
+mul-result-2 c = omega (arith, row (c .before .before) .block)
 
 returns : tie.Need-returns
 returns c =

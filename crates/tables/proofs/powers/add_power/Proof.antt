@@ -57,12 +57,12 @@ loop-less c = search needs
 
 loop-again : tie.Need-loop-again Inv-loop μ-loop
 loop-again c =
-    let now = c .before .before .before .before .before in
-    let begin = start (now .before) in (
-      omega (arith, now .loop-test .taken),
-      rows-next (now .before .loop .inv .1) refl
-          (power-gains (begin .args .l) (begin .args .p) (begin .pre .0) (now .before .before .s-power .ensures) (now .loop-test .taken) refl (c .before .before .add-scaled .ensures)),
-    )
+    let turn = c .before .before .before .before .before in
+    let at = turn .before in
+    let s = start at in
+    let power = at .before .s-power .ensures in
+    let gains = power-gains (s .args .l) (s .args .p) (s .pre .0) power (turn .loop-test .taken) refl (c .before .before .add-scaled .ensures) in
+    (omega (arith, turn .loop-test .taken), rows-next (at .loop .inv .1) refl gains)
 
 same-length : tie.Need-same-length Inv-loop μ-loop
 same-length c = search needs

@@ -14,6 +14,9 @@ Inv-loop dst₀ at n stream number l count multiples first flat place r₀ dst r
 abbrev μ-loop : tie.MeasureT-loop
 μ-loop dst₀ at n stream number l count multiples first flat place r₀ dst r = l - r
 
+abbrev start : tie.In-loop Inv-loop μ-loop → tie.Start Inv-loop μ-loop
+start c = c .before .before .before .before .before .before .before .before
+
 slice-aggregate-lay-blocks : tie.Need-slice-aggregate-lay-blocks Inv-loop μ-loop
 slice-aggregate-lay-blocks c = search needs
 
@@ -24,14 +27,12 @@ loop-holds : tie.Need-loop-holds Inv-loop μ-loop
 loop-holds c = adding-none
 
 -- row r starts within a block, and its row of dst within dst
-row-inside : (c : tie.In-loop Inv-loop μ-loop)
-    → (c .before .loop .r * c .before .before .before .before .before .before .before .before .args .l + c .before .before .before .before .before .before .before .before .args .l ≤ 16)
-    × (c .before .loop .r * c .before .before .before .before .before .before .before .before .args .n + c .before .before .before .before .before .before .before .before .args .n
-    ≤ c .before .before .before .before .before .before .before .before .args .l * c .before .before .before .before .before .before .before .before .args .n)
+row-inside : (c : tie.In-loop Inv-loop μ-loop) → (let a = start c .args in let r = c .before .loop .r in
+    (r * a .l + a .l ≤ 16) × (r * a .n + a .n ≤ a .l * a .n))
 row-inside c =
-    let start = c .before .before .before .before .before .before .before .before in
-    let most = start .pre .1 .1 .1 .1 .1 in
-    (le-trans (row-room (c .loop-test .taken)) (mul-le-mul most most), row-fits (start .args .n) (c .loop-test .taken))
+    let s = start c in
+    let most = s .pre .1 .1 .1 .1 .1 in
+    (le-trans (row-room (c .loop-test .taken)) (mul-le-mul most most), row-fits (s .args .n) (c .loop-test .taken))
 
 mul-product-word : tie.Need-mul-product-word Inv-loop μ-loop
 mul-product-word c = search needs
@@ -48,8 +49,10 @@ add-product-word c = omega (arith, row-inside (c .before) .0, c .before .before 
 product-word-requires : tie.Need-product-word-requires Inv-loop μ-loop
 product-word-requires c κs =
     let laid = c .before .before .before .before .lay-blocks in
-    let start = c .before .before .before .before .before .before .before .before .before in
-    (omega (arith, start .pre .1 .0), (omega (arith, row-inside (c .before) .0, laid .ensures .early, laid .kept .0, start .pre .1 .1 .0), start .pre .1 .1 .1 .0))
+    let s = start (c .before) in (
+      omega (arith, s .pre .1 .0),
+      (omega (arith, row-inside (c .before) .0, laid .ensures .early, laid .kept .0, s .pre .1 .1 .0), s .pre .1 .1 .1 .0),
+    )
 
 mul-add-word : tie.Need-mul-add-word Inv-loop μ-loop
 mul-add-word c = omega (arith, row-inside (c .before .before .before) .1)
@@ -67,8 +70,10 @@ loop-less : tie.Need-loop-less Inv-loop μ-loop
 loop-less c = search needs
 
 loop-again : tie.Need-loop-again Inv-loop μ-loop
-loop-again c = adding-next (c .before .before .before .before .before .before .before .loop .inv) (c .before .before .before .before .before .before .loop-test .taken)
-    (c .before .before .before .before .before .before .before .before .before .lay-blocks .ensures) (c .before .before .before .before .product-word .ensures) (c .before .before .add-word .ensures)
+loop-again c =
+    let turn = c .before .before .before .before .before .before in
+    let laid = turn .before .before .before .lay-blocks .ensures in
+    adding-next (turn .before .loop .inv) (turn .loop-test .taken) laid (c .before .before .before .before .product-word .ensures) (c .before .before .add-word .ensures)
 
 same-length : tie.Need-same-length Inv-loop μ-loop
 same-length c = c .before .loop .inv .long

@@ -13,7 +13,9 @@ slice-aggregate-signature-table : tie.Need-slice-aggregate-signature-table
 slice-aggregate-signature-table c = search needs
 
 signature-table-requires : tie.Need-signature-table-requires
-signature-table-requires c κs = let s = c .before .before .before .before .before .before in (s .pre .0 .0, s .pre .1 .2, omega (arith, table-room (s .pre .0 .0), length-zeros 5440))
+signature-table-requires c κs =
+    let s = c .before .before .before .before .before .before in
+    (s .pre .0 .0, s .pre .1 .2, omega (arith, table-room (s .pre .0 .0), length-zeros 5440))
 
 slice-aggregate-all-sums : tie.Need-slice-aggregate-all-sums
 slice-aggregate-all-sums c = search needs
@@ -23,10 +25,12 @@ slice-aggregate-all-sums-2 c = search needs
 
 all-sums-requires : tie.Need-all-sums-requires
 all-sums-requires c κs =
-    let s = c .before .before .before .before .before .before .before .before .before .before in (
-      s .pre .0 .0,
+    let s = c .before .before .before .before .before .before .before .before .before .before in
+    let bounds = s .pre .0 .0 in
+    let w-long = c .before .before .before .signature-table .kept .0 in (
+      bounds,
       (
-        (omega (arith, sums-room (s .pre .0 .0), length-zeros 2560), omega (arith, table-room (s .pre .0 .0), length-zeros 5440, c .before .before .before .signature-table .kept .0)),
+        (omega (arith, sums-room bounds, length-zeros 2560), omega (arith, table-room bounds, length-zeros 5440, w-long)),
         (s .pre .0 .1, s .pre .1 .1),
       ),
     )
@@ -37,14 +41,16 @@ slice-aggregate-all-equal c = search needs
 all-equal-requires : tie.Need-all-equal-requires
 all-equal-requires c κs =
     let s = c .before .before .before .before .before .before .before .before .before .before .before .before .before in
-    ((s .pre .0 .0, omega (arith, sums-room (s .pre .0 .0), length-zeros 2560, c .before .before .all-sums .kept .0)), (s .pre .0 .2, s .pre .0 .3, s .pre .1 .0))
+    let bounds = s .pre .0 .0 in
+    ((bounds, omega (arith, sums-room bounds, length-zeros 2560, c .before .before .all-sums .kept .0)), (s .pre .0 .2, s .pre .0 .3, s .pre .1 .0))
 
 returns : tie.Need-returns
 returns c =
     let s = c .before .before .before .before .before .before .before .before .before .before .before .before .before .before in
     let a = s .args in
-    c .all-equal .ensures
-    ∙ meets-accepted (s .pre .0 .0) (a .public .now) (a .abq .now) (a .key .now) (a .signature .now) (a .target .now) _ _ (c .before .before .before .before .before .before .before .signature-table .ensures) (c .before .before .before .all-sums .ensures)
+    let powers = c .before .before .before .before .before .before .before .signature-table .ensures in
+    let sums = c .before .before .before .all-sums .ensures in
+    c .all-equal .ensures ∙ meets-accepted (s .pre .0 .0) (a .public .now) (a .abq .now) (a .key .now) (a .signature .now) (a .target .now) _ _ powers sums
 
 pub accepts-spec : {M : Type 1} → statement M
 accepts-spec =

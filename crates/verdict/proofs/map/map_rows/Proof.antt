@@ -6,7 +6,9 @@ use Rattle.verdict.proofs.map.map_rows.Statement.{statement}
 use Rattle.verdict.proofs.map.map_rows.Tie as tie
 
 vinegar-rows-requires : tie.Need-vinegar-rows-requires
-vinegar-rows-requires c κs = let s = c .before .before .before .before .before .before in ((s .pre .0 .0, s .pre .0 .1, c .before .if1 .taken), (s .pre .1 .0, s .pre .1 .1))
+vinegar-rows-requires c κs =
+    let s = c .before .before .before .before .before .before in
+    ((s .pre .0 .0, s .pre .0 .1, c .before .if1 .taken), (s .pre .1 .0, s .pre .1 .1))
 
 same-length : tie.Need-same-length
 same-length c = search needs
@@ -15,13 +17,19 @@ returns : tie.Need-returns
 returns c = c .before .before .vinegar-rows .ensures
 
 oil-rows-requires : tie.Need-oil-rows-requires
-oil-rows-requires c κs = let s = c .before .before .before .before .before .before in ((s .pre .0 .0, s .pre .0 .1, omega (arith, c .before .if1 .left, s .pre .0 .2)), (s .pre .1 .0, s .pre .1 .1))
+oil-rows-requires c κs =
+    let s = c .before .before .before .before .before .before in
+    ((s .pre .0 .0, s .pre .0 .1, omega (arith, c .before .if1 .left, s .pre .0 .2)), (s .pre .1 .0, s .pre .1 .1))
 
 same-length-2 : tie.Need-same-length-2
 same-length-2 c = search needs
 
+-- v + (j - v) is j
 returns-2 : tie.Need-returns-2
-returns-2 c = let a = c .before .before .before .before .before .before .before .before .before .args in λ w m. oil-row (a .set) (a .public .now) (a .key .now) w (a .i) (a .j) (omega (arith, c .before .before .before .before .if1 .left)) (c .before .before .oil-rows .ensures w m)
+returns-2 c =
+    let a = c .before .before .before .before .before .before .before .before .before .args in
+    let oil = c .before .before .before .before .if1 .left in
+    λ w m. oil-row (a .set) (a .public .now) (a .key .now) w (a .i) (a .j) (omega (arith, oil)) (c .before .before .oil-rows .ensures w m)
 
 pub map-rows-spec : {M : Type 1} → statement M
 map-rows-spec =

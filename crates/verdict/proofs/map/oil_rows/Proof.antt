@@ -19,12 +19,14 @@ p22-number-requires c κs = c .before .before .before .before .before .before .b
 add-rows-requires : tie.Need-add-rows-requires
 add-rows-requires c κs =
     let s = c .before .before .before .before .before .before .before .before .before .before .before in
+    let a = s .args in
+    let bounds = s .pre .0 .0 in
     let left = c .before .before .p21-number .ensures .within in
     let right = c .before .p22-number .ensures .within in (
-      s .pre .0 .0,
+      bounds,
       (
         (omega (arith, s .pre .1 .0 .0, c .before .before .before .before .before .clear .kept .0), s .pre .1 .0 .1),
-        (public-within (s .pre .0 .0) (s .args .public .now) (s .pre .1 .1 .0) left, key-within (s .pre .0 .0) (s .args .key .now) (s .pre .1 .1 .1) right),
+        (public-within bounds (a .public .now) (s .pre .1 .1 .0) left, key-within bounds (a .key .now) (s .pre .1 .1 .1) right),
       ),
     )
 
@@ -35,8 +37,10 @@ returns : tie.Need-returns
 returns c =
     let s = c .before .before .before .before .before .before .before .before .before .before .before .before .before .before in
     let a = s .args in
-    λ w m. oil-holds (a .set) (a .public .now) (a .key .now) w (a .i) (a .k) (c .before .before .before .before .before .p21-number .ensures .is) (c .before .before .before .before .p22-number .ensures .is)
-    (cleared (a .y .now) (c .before .before .before .before .before .before .before .before .clear .ensures)) (c .before .before .add-rows .ensures w m)
+    let first = c .before .before .before .before .before .p21-number .ensures .is in
+    let second = c .before .before .before .before .p22-number .ensures .is in
+    let empty = cleared (a .y .now) (c .before .before .before .before .before .before .before .before .clear .ensures) in
+    λ w m. oil-holds (a .set) (a .public .now) (a .key .now) w (a .i) (a .k) first second empty (c .before .before .add-rows .ensures w m)
 
 pub oil-rows-spec : {M : Type 1} → statement M
 oil-rows-spec =

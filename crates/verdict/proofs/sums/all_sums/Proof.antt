@@ -4,7 +4,7 @@ use Prim.Native.Nat.{_-_}
 use lib.ListN.{length}
 use Rattle.rows.specs.Zero.{length-zeros}
 use Rattle.tables.specs.Table.{cleared}
-use Rattle.verdict.specs.Places.{rows-room, square-room}
+use Rattle.verdict.specs.Places.{rows-room, square-room, few-variables}
 use Rattle.verdict.specs.Sums.{Summing, summing-none, summing-next, summing-end}
 use borrow.Author.Needs.{needs}
 use native.Mathlib.Omega.{arith}
@@ -17,6 +17,9 @@ Inv-loop sums₀ set public key w l o multiples i₀ sums i = (length sums ≡ l
 abbrev μ-loop : tie.MeasureT-loop
 μ-loop sums₀ set public key w l o multiples i₀ sums i = o - i
 
+abbrev start : tie.In-loop Inv-loop μ-loop → tie.Start Inv-loop μ-loop
+start c = c .before .before .before .before .before .before .before .before .before .before .before .before .before .before
+
 clear-requires : tie.Need-clear-requires Inv-loop μ-loop
 clear-requires c κs = search needs
 
@@ -24,42 +27,56 @@ slice-aggregate-multiply : tie.Need-slice-aggregate-multiply Inv-loop μ-loop
 slice-aggregate-multiply c = search needs
 
 mul-multiply : tie.Need-mul-multiply Inv-loop μ-loop
-mul-multiply c = search needs
+mul-multiply c = omega (arith, square-room (c .before .before .before .before .before .before .before .before .before .pre .0))
 
 add-multiply : tie.Need-add-multiply Inv-loop μ-loop
-add-multiply c = search needs
+add-multiply c = omega (arith, few-variables (c .before .before .before .before .before .before .before .before .before .before .pre .0))
 
 mul-multiply-2 : tie.Need-mul-multiply-2 Inv-loop μ-loop
 mul-multiply-2 c = omega (arith, rows-room (c .before .before .before .before .before .before .before .before .before .before .pre .0))
 
 multiply-requires : tie.Need-multiply-requires Inv-loop μ-loop
-multiply-requires c κs = let s = c .before .before .before .before .before .before .before .before .before .before in
+multiply-requires c κs =
+    let s = c .before .before .before .before .before .before .before .before .before .before in
     (omega (arith, rows-room (s .pre .0), length-zeros 2720), (s .pre .1 .0 .1, square-room (s .pre .0)))
 
 loop-holds : tie.Need-loop-holds Inv-loop μ-loop
-loop-holds c = (refl, summing-none (cleared (c .before .before .before .before .before .before .before .before .before .before .before .before .args .sums .now) (c .before .before .before .before .before .before .clear .ensures)))
+loop-holds c =
+    let after = c .before .before .before .before .before .before in
+    let before = after .before .before .before .before .before .before .args .sums .now in
+    (refl, summing-none (cleared before (after .clear .ensures)))
 
 slice-aggregate-index-sums : tie.Need-slice-aggregate-index-sums Inv-loop μ-loop
 slice-aggregate-index-sums c = search needs
 
 index-sums-requires : tie.Need-index-sums-requires Inv-loop μ-loop
-index-sums-requires c κs = let s = c .before .before .before .before .before .before .before .before .before .before .before .before .before .before .before .before in
-    let multiply = c .before .before .before .before .before .multiply in (
-      (s .pre .0, c .before .before .loop-test .taken),
+index-sums-requires c κs =
+    let turn = c .before .before in
+    let at = turn .before in
+    let s = start turn in
+    let cleared-length = at .before .before .before .before .before .before .before .clear .kept .0 in
+    let multiply = at .before .before .multiply in (
+      (s .pre .0, turn .loop-test .taken),
       (
-        (omega (arith, s .pre .1 .0 .0, c .before .before .before .loop .inv .0, c .before .before .before .before .before .before .before .before .before .before .clear .kept .0), s .pre .1 .0 .1),
+        (omega (arith, s .pre .1 .0 .0, at .loop .inv .0, cleared-length), s .pre .1 .0 .1),
         (s .pre .1 .1, (omega (arith, rows-room (s .pre .0), length-zeros 2720, multiply .kept .0), multiply .ensures .words)),
       ),
     )
 
 add-i : tie.Need-add-i Inv-loop μ-loop
-add-i c = omega (arith, c .before .before .before .before .before .loop-test .taken, c .before .before .before .before .before .before .before .before .before .before .before .before .before .before .before .before .before .before .before .pre .0 .limits .o-most)
+add-i c =
+    let turn = c .before .before .before .before .before in
+    omega (arith, turn .loop-test .taken, start turn .pre .0 .limits .o-most)
 
 loop-less : tie.Need-loop-less Inv-loop μ-loop
 loop-less c = omega (arith, c .before .before .before .before .before .loop-test .taken)
 
 loop-again : tie.Need-loop-again Inv-loop μ-loop
-loop-again c = (c .before .before .index-sums .ensures .long ∙ c .before .before .before .before .before .before .loop .inv .0, summing-next (c .before .before .before .before .before .before .loop .inv .1) (c .before .before .before .before .before .loop-test .taken) (c .before .before .index-sums .ensures))
+loop-again c =
+    let turn = c .before .before .before .before .before in
+    let inv = turn .before .loop .inv in
+    let added = c .before .before .index-sums .ensures in
+    (added .long ∙ inv .0, summing-next (inv .1) (turn .loop-test .taken) added)
 
 same-length : tie.Need-same-length Inv-loop μ-loop
 same-length c = search needs

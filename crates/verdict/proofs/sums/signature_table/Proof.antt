@@ -2,7 +2,7 @@
 use mathlib.Core.Path.{refl, _∙_}
 use Rattle.rows.specs.Zero.{length-zeros}
 use Rattle.tables.specs.Rooms.{powers-room}
-use Rattle.verdict.specs.Places.{list-room, signature-within}
+use Rattle.verdict.specs.Places.{list-room, signature-within, few-variables}
 use Rattle.verdict.specs.Sums.{powers-of-signature}
 use borrow.Author.Needs.{needs}
 use native.Mathlib.Omega.{arith}
@@ -10,13 +10,15 @@ use Rattle.verdict.proofs.sums.signature_table.Statement.{statement}
 use Rattle.verdict.proofs.sums.signature_table.Tie as tie
 
 add-n : tie.Need-add-n
-add-n c = omega (arith, c .before .before .before .pre .0 .limits .v-most, c .before .before .before .pre .0 .limits .o-most)
+add-n c = omega (arith, few-variables (c .before .before .before .pre .0))
 
 slice-aggregate-powers-of-s : tie.Need-slice-aggregate-powers-of-s
 slice-aggregate-powers-of-s c = search needs
 
 powers-of-s-requires : tie.Need-powers-of-s-requires
-powers-of-s-requires c κs = omega (arith, c .before .before .before .before .pre .0 .limits .l-most, powers-room (c .before .before .before .before .pre .0), length-zeros 64)
+powers-of-s-requires c κs =
+    let bounds = c .before .before .before .before .pre .0 in
+    omega (arith, bounds .limits .l-most, powers-room bounds, length-zeros 64)
 
 slice-aggregate-unpack-all : tie.Need-slice-aggregate-unpack-all
 slice-aggregate-unpack-all c = search needs
@@ -41,15 +43,20 @@ slice-aggregate-power-table-2 c = search needs
 power-table-requires : tie.Need-power-table-requires
 power-table-requires c κs =
     let s = c .before .before .before .before .before .before .before .before .before .before .before .before in
+    let bounds = s .pre .0 in
+    let powers = c .before .before .before .before .before .before .before .powers-of-s .ensures in
     let list-long = c .before .before .before .before .unpack-all .ensures .long ∙ length-zeros 1360 in
-    let powers-long = c .before .before .before .before .before .before .before .powers-of-s .ensures .long ∙ length-zeros 64 in
-    (omega (arith, s .pre .0 .limits .l-least, s .pre .2, list-room (s .pre .0), powers-room (s .pre .0)), c .before .before .before .before .before .before .before .powers-of-s .ensures .holds)
+    let powers-long = powers .long ∙ length-zeros 64 in
+    (omega (arith, bounds .limits .l-least, s .pre .2, list-room bounds, powers-room bounds), powers .holds)
 
 same-length : tie.Need-same-length
 same-length c = search needs
 
 returns : tie.Need-returns
-returns c = powers-of-signature (c .before .before .before .before .before .before .before .before .before .before .before .before .before .before .before .args .set) refl (c .before .before .before .before .before .before .before .unpack-all .ensures) (c .before .before .power-table .ensures)
+returns c =
+    let unpacked = c .before .before .before .before .before .before .before in
+    let a = unpacked .before .before .before .before .before .before .before .before .args in
+    powers-of-signature (a .set) refl (unpacked .unpack-all .ensures) (c .before .before .power-table .ensures)
 
 pub signature-table-spec : {M : Type 1} → statement M
 signature-table-spec =
