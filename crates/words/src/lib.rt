@@ -1,5 +1,6 @@
-// Rows of up to sixteen elements as words: element c of a row is nibble c of a word, so that two rows are added by one exclusive or. A table of words holds the sixteen
-// multiples of each row of a byte table, so that a row times a scalar is one look-up. Sums of many short rows, as key generation, the verdict and signing have them, cost little then.
+// Rows of up to sixteen elements as words: element c of a row is nibble c of a word, so that two rows are added by one exclusive or.
+// A table of words holds the sixteen multiples of each row of a byte table, so that a row times a scalar is one look-up.
+// Sums of many short rows, as key generation, the verdict and signing have them, cost little then.
 ghost use mathlib.Core.Path.{_≡_};
 ghost use Prim.Native.Nat.{ℕ, _+_, _*_, _<_, _≤_};
 ghost use lib.ListN.{length, getD};

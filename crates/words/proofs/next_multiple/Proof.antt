@@ -50,9 +50,12 @@ shared-slice-read-result-2 c = omega (arith, rest-less (c .before .before))
 
 returns-2 : tie.Need-returns-2
 unfolding add
-returns-2 c = let here = c .before .before in
+returns-2 c =
+    let here = c .before .before in
     let start = here .before .before .before .before in
-    multiple-halves _ _ _ _ (start .pre .0 .1 .1 .0) (here .before .highest .ensures) (start .pre .1 _ (omega (arith, top-le (here .before), here .if1 .left))) (start .pre .1 _ (rest-less here))
+    let top = here .before .highest in
+    let top-less : top .result < start .args .p = omega (arith, top-le (here .before), here .if1 .left) in
+    multiple-halves _ _ _ _ (start .pre .0 .1 .1 .0) (top .ensures) (start .pre .1 _ top-less) (start .pre .1 _ (rest-less here))
 
 pub next-multiple-spec : {M : Type 1} → statement M
 next-multiple-spec =
