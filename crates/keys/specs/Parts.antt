@@ -7,7 +7,7 @@ use native.Mathlib.Nat.{le-refl}
 use native.Mathlib.Omega.{arith}
 use lib.Arith.{digits-div, digits-mod}
 use lib.ListN.{length}
-use Rattle.algebra.specs.Ring.{Ring, add-left-comm}
+use Rattle.algebra.specs.Ring.{Ring}
 use Rattle.algebra.specs.Sum.{sum, sum-cong, sum-add, sum-mul, mul-sum, sum-swap}
 use Rattle.field.specs.Field.{add}
 use Rattle.field.specs.Laws.{add-lt}
@@ -40,7 +40,7 @@ module _ {A : Type 0} {𝟘 : A} {_⊕_ _⊗_ : A → A → A} {tr : A → A} (R
       let right : ℕ → A = λ b. sum 𝟘 _⊕_ v (λ a. x a ⊗ m a b ⊗ t b) in
       simp (R .mul-add, R .add-mul, mul-sum R, sum-mul R, R .mul-assoc)
       (rw (sum-add R v (λ a. x a ⊗ p a) left, sum-add R v (λ b. q b ⊗ t b) right, sum-swap R v v (λ a b. x a ⊗ m a b ⊗ t b))
-      (simp (R .add-assoc, R .add-comm, add-left-comm R)))
+      (simp (R .add-assoc, R .add-comm)))
 
 -- page 01's P22, made by F21
 pub key-by-f21 : (set : Set) (public private : List ℕ) (i j k : ℕ) → keyP22 set public private i j k
