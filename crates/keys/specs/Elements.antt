@@ -83,14 +83,16 @@ key-number set i b x =
     ap (λ n. n * (set .l * set .l) + x) block ∙ omega arith
 
 module _ (set : Set) (public private : List ℕ) where
+  -- element e of the table k is the key's, behind those of the first i equations
+  abbrev pub KeyElementOf : (i : ℕ) (k : List ℕ) (e : ℕ) → Type 0
+  KeyElementOf i k e = tableElement (set .o) (set .l) k e ≡ keyElement set public private (i * rowCount (set .o) (set .l) * set .l + e)
+
   -- the elements of equation i
   pub table-key : (i : ℕ) {k : List ℕ} → i < set .o → Holds (set .l) (set .o * set .l) (set .o) (set .o) k (keyP22 set public private i)
-      → (e : ℕ) → e < rowCount (set .o) (set .l) * set .l → tableElement (set .o) (set .l) k e ≡ keyElement set public private (i * rowCount (set .o) (set .l) * set .l + e)
-  table-key i {k} hi h e he =
-      by-entry (set .l) (set .o * set .o) (λ e. tableElement (set .o) (set .l) k e ≡ keyElement set public private (i * rowCount (set .o) (set .l) * set .l + e)) entry e (omega arith)
+      → (e : ℕ) → e < rowCount (set .o) (set .l) * set .l → KeyElementOf i k e
+  table-key i {k} hi h e he = by-entry (set .l) (set .o * set .o) (KeyElementOf i k) entry e (omega arith)
     where
-      entry : (b r c : ℕ) → b < set .o * set .o → r < set .l → c < set .l
-          → tableElement (set .o) (set .l) k (b * (set .l * set .l) + (r * set .l + c)) ≡ keyElement set public private (i * rowCount (set .o) (set .l) * set .l + (b * (set .l * set .l) + (r * set .l + c)))
+      entry : (b r c : ℕ) → b < set .o * set .o → r < set .l → c < set .l → KeyElementOf i k (b * (set .l * set .l) + (r * set .l + c))
       entry b r c hb hr hc =
           let some : 0 < set .o = omega arith in
           let row : b / set .o < set .o = div-lt-iff-lt-mul some .1 hb in
@@ -125,11 +127,11 @@ writing-next {set} {public} {t} {before} {after} {u} {k} {i} p hi table w = reco
   upto = omega arith;
   long = w .long ∙ p .long;
   so-far = λ private h.
-      let more : i * rowCount (set .o) (set .l) * set .l + rowCount (set .o) (set .l) * set .l ≡ (i + 1) * rowCount (set .o) (set .l) * set .l = omega arith in
-      let row : Written after (i * rowCount (set .o) (set .l) * set .l) (rowCount (set .o) (set .l) * set .l) (λ e. keyElement set public private (i * rowCount (set .o) (set .l) * set .l + e)) u =
-      written-cong (table-key set public private i hi (table private h)) w in
-      let placed : Written after (0 + i * rowCount (set .o) (set .l) * set .l) (rowCount (set .o) (set .l) * set .l) (λ e. keyElement set public private (i * rowCount (set .o) (set .l) * set .l + e)) u =
-      rw (zero-add (i * rowCount (set .o) (set .l) * set .l)) row in
+      let count = rowCount (set .o) (set .l) * set .l in
+      let from = i * rowCount (set .o) (set .l) * set .l in
+      let more : from + count ≡ (i + 1) * rowCount (set .o) (set .l) * set .l = omega arith in
+      let row : Written after from count (λ e. keyElement set public private (from + e)) u = written-cong (table-key set public private i hi (table private h)) w in
+      let placed : Written after (0 + from) count (λ e. keyElement set public private (from + e)) u = rw (zero-add from) row in
       subst (λ n. Written before 0 n (keyElement set public private) u) more (written-then (p .so-far private h) placed);
 }
 

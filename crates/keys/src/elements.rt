@@ -15,7 +15,8 @@ fn put_p22(key: &mut [u8], set: Set, k: &[u8], i: usize)
     requires { ⌜ Bounds set ⌝ }
     requires { ⌜ (i < set .o) × (length (now key) ≡ keyBytes set) × (set .o * set .l * (set .o * set .l) ≤ length (now k)) ⌝ }
     requires { ⌜ ((e : ℕ) → getD (now k) e 0 < 16) ⌝ }
-    ensures { λ _. ⌜ Written (now (key .entry)) (i * rowCount (set .o) (set .l) * set .l) (rowCount (set .o) (set .l) * set .l) (tableElement (set .o) (set .l) (now (k .entry))) (now (key .exit)) ⌝ }
+    ensures { λ _. ⌜ Written (now (key .entry)) (i * rowCount (set .o) (set .l) * set .l) (rowCount (set .o) (set .l) * set .l)
+        (tableElement (set .o) (set .l) (now (k .entry))) (now (key .exit)) ⌝ }
 {
     let l = set.l;
     let o = set.o;

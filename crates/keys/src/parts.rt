@@ -33,7 +33,8 @@ pub fn f21_table(f: &mut [u8], set: Set, public: &[u8], t: &[u8], i: usize)
     requires { ⌜ Bounds set ⌝ }
     requires { ⌜ (i < set .o) × (length (now public) ≡ publicBytes set) ⌝ }
     requires { ⌜ (set .o * set .l * (set .v * set .l) ≤ length (now f)) × (set .v * set .l * (set .o * set .l) ≤ length (now t)) ⌝ }
-    ensures { λ _. ⌜ Filled (set .l) (set .v * set .l) (set .o) (set .v) (f21Of set (now (public .entry)) (blocks set (now (t .entry))) i) (now (f .entry)) (now (f .exit)) ⌝ }
+    ensures { λ _. ⌜ Filled (set .l) (set .v * set .l) (set .o) (set .v)
+        (f21Of set (now (public .entry)) (blocks set (now (t .entry))) i) (now (f .entry)) (now (f .exit)) ⌝ }
 {
     let l = set.l;
     let v = set.v;
@@ -48,8 +49,11 @@ pub fn f21_table(f: &mut [u8], set: Set, public: &[u8], t: &[u8], i: usize)
 pub fn p22_table(k: &mut [u8], set: Set, public: &[u8], t: &[u8], f: &[u8], i: usize)
     requires { ⌜ Bounds set ⌝ }
     requires { ⌜ (i < set .o) × (length (now public) ≡ publicBytes set) ⌝ }
-    requires { ⌜ (set .o * set .l * (set .o * set .l) ≤ length (now k)) × (set .v * set .l * (set .o * set .l) ≤ length (now t)) × (set .o * set .l * (set .v * set .l) ≤ length (now f)) ⌝ }
-    ensures { λ _. ⌜ Filled (set .l) (set .o * set .l) (set .o) (set .o) (p22Of set (now (public .entry)) (blocks set (now (t .entry))) (wideBlocks set (now (f .entry))) i) (now (k .entry)) (now (k .exit)) ⌝ }
+    requires { ⌜ (set .o * set .l * (set .o * set .l) ≤ length (now k))
+        × (set .v * set .l * (set .o * set .l) ≤ length (now t))
+        × (set .o * set .l * (set .v * set .l) ≤ length (now f)) ⌝ }
+    ensures { λ _. ⌜ Filled (set .l) (set .o * set .l) (set .o) (set .o)
+        (p22Of set (now (public .entry)) (blocks set (now (t .entry))) (wideBlocks set (now (f .entry))) i) (now (k .entry)) (now (k .exit)) ⌝ }
 {
     let l = set.l;
     let v = set.v;

@@ -131,5 +131,5 @@ module _ (set : Set) (public x : List ℕ) where
         ∙ ap (λ M. M r c) (sum-cong (matrices (set .l)) (set .v) (λ j h.
         let number : p12Number set i 0 0 + j * set .o + k ≡ p12Number set i j k = omega arith in
         ap (λ p. mulM (set .l) (transpose (tile (set .l) (set .l * set .l) x j a)) (blockOf (set .l) public p)) number)))
-        (times-blocks (set .l) hr hc (leftGain (set .l) (set .v) x (set .l * set .l) public (p11Number set i 0 0) (set .v)) (set .v) (set .o * set .l) t a k (λ u. leftP11From i u a)
-        (λ u s hu hs. z-blocks i hr hs u a))
+        (times-blocks (set .l) hr hc (leftGain (set .l) (set .v) x (set .l * set .l) public (p11Number set i 0 0) (set .v)) (set .v) (set .o * set .l) t a k
+        (λ u. leftP11From i u a) (λ u s hu hs. z-blocks i hr hs u a))

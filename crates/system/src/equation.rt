@@ -38,7 +38,9 @@ fn add_term(
     requires { ⌜ Term set i alpha ⌝ }
     requires { ⌜ (length (now abq) ≡ abqBytes set) × (allInvertible set (now abq) ≡ true) ⌝ }
     requires { ⌜ (set .o * set .l * set .l * (set .l * 5) ≤ length (now lefts)) × (set .o * set .l * set .l * (set .l * 5) ≤ length (now rights)) ⌝ }
-    requires { ⌜ (set .o * (set .l * set .l) * (set .o * set .l) ≤ length (now left)) × ((set .o * (set .o * set .l) * (set .l * set .l) ≤ length (now right)) × (set .l * set .l * set .l ≤ length (now sp))) ⌝ }
+    requires { ⌜ (set .o * (set .l * set .l) * (set .o * set .l) ≤ length (now left))
+        × ((set .o * (set .o * set .l) * (set .l * set .l) ≤ length (now right))
+        × (set .l * set .l * set .l ≤ length (now sp))) ⌝ }
     ensures { λ _. ⌜ PlusRows (now (lefts .entry)) 0 (set .o * set .l * set .l) (set .l * 5)
         (leftTerm set (now (abq .entry)) (now (left .entry)) (now (right .entry)) (now (sp .entry)) i alpha) (now (lefts .exit)) ⌝ }
     ensures { λ _. ⌜ PlusRows (now (rights .entry)) 0 (set .o * set .l * set .l) (set .l * 5)
@@ -103,7 +105,10 @@ fn add_equation(
 )
     requires { ⌜ Bounds set × (i < set .o) ⌝ }
     requires { ⌜ (length (now abq) ≡ abqBytes set) × (allInvertible set (now abq) ≡ true) ⌝ }
-    requires { ⌜ (at + set .l * set .l * (set .o * set .l * set .l + 1) ≤ length (now g)) × ((set .o * (set .l * set .l) * (set .o * set .l) ≤ length (now left)) × ((set .o * (set .o * set .l) * (set .l * set .l) ≤ length (now right)) × (set .l * set .l * set .l ≤ length (now sp)))) ⌝ }
+    requires { ⌜ (at + set .l * set .l * (set .o * set .l * set .l + 1) ≤ length (now g))
+        × ((set .o * (set .l * set .l) * (set .o * set .l) ≤ length (now left))
+        × ((set .o * (set .o * set .l) * (set .l * set .l) ≤ length (now right))
+        × (set .l * set .l * set .l ≤ length (now sp)))) ⌝ }
     ensures { λ _. ⌜ PlusRows (now (g .entry)) at (set .l * set .l) (set .o * set .l * set .l + 1)
         (equationRow set (now (abq .entry)) (now (left .entry)) (now (right .entry)) (now (sp .entry)) i) (now (g .exit)) ⌝ }
 {
@@ -122,7 +127,9 @@ fn add_equation(
 fn add_target(g: &mut [u8], at: usize, set: Set, abq: &[u8], sums: &[u8], target: &[u8], i: usize)
     requires { ⌜ Bounds set × (i < set .o) ⌝ }
     requires { ⌜ (length (now abq) ≡ abqBytes set) × (allInvertible set (now abq) ≡ true) ⌝ }
-    requires { ⌜ (at + set .l * set .l * (set .o * set .l * set .l + 1) ≤ length (now g)) × ((set .o * (set .l * set .l) * (set .l * set .l) ≤ length (now sums)) × (length (now target) ≡ targetBytes set)) ⌝ }
+    requires { ⌜ (at + set .l * set .l * (set .o * set .l * set .l + 1) ≤ length (now g))
+        × ((set .o * (set .l * set .l) * (set .l * set .l) ≤ length (now sums))
+        × (length (now target) ≡ targetBytes set)) ⌝ }
     ensures { λ _. ⌜ PlusRows (now (g .entry)) at (set .l * set .l) (set .o * set .l * set .l + 1)
         (targetRow set (now (abq .entry)) (now (sums .entry)) (now (target .entry)) i) (now (g .exit)) ⌝ }
 {
@@ -152,7 +159,10 @@ pub fn build(
 )
     requires { ⌜ Bounds set × (set .o * (set .l * set .l) * (set .o * set .l * set .l + 1) ≤ length (now g)) ⌝ }
     requires { ⌜ (length (now abq) ≡ abqBytes set) × ((allInvertible set (now abq) ≡ true) × (length (now target) ≡ targetBytes set)) ⌝ }
-    requires { ⌜ (set .o * (set .l * set .l) * (set .o * set .l) ≤ length (now left)) × ((set .o * (set .o * set .l) * (set .l * set .l) ≤ length (now right)) × ((set .l * set .l * set .l ≤ length (now sp)) × (set .o * (set .l * set .l) * (set .l * set .l) ≤ length (now sums)))) ⌝ }
+    requires { ⌜ (set .o * (set .l * set .l) * (set .o * set .l) ≤ length (now left))
+        × ((set .o * (set .o * set .l) * (set .l * set .l) ≤ length (now right))
+        × ((set .l * set .l * set .l ≤ length (now sp))
+        × (set .o * (set .l * set .l) * (set .l * set .l) ≤ length (now sums)))) ⌝ }
     ensures { λ _. ⌜ Built set (now (abq .entry)) (now (target .entry)) (now (left .entry)) (now (right .entry)) (now (sums .entry)) (now (sp .entry))
         (now (g .entry)) (now (g .exit)) ⌝ }
 {

@@ -16,8 +16,11 @@ const SUMS: usize = 4800;
 // The rows of one matrix index, from byte `at` on. x holds the powers of S times the vinegar, t holds T12.
 fn add_left_index(left: &mut [u8], at: usize, set: Set, i: usize, public: &[u8], x: &[u8], t: &[u8])
     requires { ⌜ Bounds set × ((i < set .o) × (at + set .l * set .l * (set .o * set .l) ≤ length (now left))) ⌝ }
-    requires { ⌜ (length (now public) ≡ publicBytes set) × ((set .v * set .l * (set .l * set .l) ≤ length (now x)) × (set .v * set .l * (set .o * set .l) ≤ length (now t))) ⌝ }
-    ensures { λ _. ⌜ PlusRows (now (left .entry)) at (set .l * set .l) (set .o * set .l) (leftRow set (now (public .entry)) (now (x .entry)) (now (t .entry)) i) (now (left .exit)) ⌝ }
+    requires { ⌜ (length (now public) ≡ publicBytes set)
+        × ((set .v * set .l * (set .l * set .l) ≤ length (now x))
+        × (set .v * set .l * (set .o * set .l) ≤ length (now t))) ⌝ }
+    ensures { λ _. ⌜ PlusRows (now (left .entry)) at (set .l * set .l) (set .o * set .l)
+        (leftRow set (now (public .entry)) (now (x .entry)) (now (t .entry)) i) (now (left .exit)) ⌝ }
 {
     let v = set.v;
     let o = set.o;
@@ -33,7 +36,9 @@ fn add_left_index(left: &mut [u8], at: usize, set: Set, i: usize, public: &[u8],
 
 pub fn fill_left(left: &mut [u8], set: Set, public: &[u8], x: &[u8], t: &[u8])
     requires { ⌜ Bounds set × (set .o * (set .l * set .l) * (set .o * set .l) ≤ length (now left)) ⌝ }
-    requires { ⌜ (length (now public) ≡ publicBytes set) × ((set .v * set .l * (set .l * set .l) ≤ length (now x)) × (set .v * set .l * (set .o * set .l) ≤ length (now t))) ⌝ }
+    requires { ⌜ (length (now public) ≡ publicBytes set)
+        × ((set .v * set .l * (set .l * set .l) ≤ length (now x))
+        × (set .v * set .l * (set .o * set .l) ≤ length (now t))) ⌝ }
     ensures { λ _. ⌜ LeftHolds set (now (public .entry)) (now (x .entry)) (now (t .entry)) (now (left .entry)) (now (left .exit)) ⌝ }
 {
     let o = set.o;

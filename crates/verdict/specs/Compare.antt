@@ -81,9 +81,10 @@ all-meet set abq sums target = refl
 
 -- ---- the verdict
 
-pub meets-accepted : {set : Set} → Bounds set → (public abq key signature target w sums : List ℕ) → PowersOf set w (signatureOf set signature) → SumsOf set public key w sums
-    → meets set (equationFrom set abq sums) target ≡ accepted set public abq key signature target
+pub meets-accepted : {set : Set} → Bounds set → (public abq key signature target : List ℕ) {w sums : List ℕ} {x : Bool}
+    → x ≡ meets set (equationFrom set abq sums) target → PowersOf set w (signatureOf set signature) → SumsOf set public key w sums
+    → x ≡ accepted set public abq key signature target
 unfolding accepted
-meets-accepted {set} bounds public abq key signature target w sums hw hs =
+meets-accepted {set} bounds public abq key signature target is hw hs =
     let positive : 0 < set .l = omega (arith, bounds .limits .l-least) in
-    meets-same set _ _ target (λ i hi. public-from-sums bounds abq public positive (P22 set key) (hs .sums (signatureOf set signature) hw) i hi)
+    is ∙ meets-same set _ _ target (λ i hi. public-from-sums bounds abq public positive (P22 set key) (hs .sums (signatureOf set signature) hw) i hi)

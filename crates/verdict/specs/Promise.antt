@@ -16,7 +16,7 @@ use Rattle.ground.specs.declared.Answer.the-variants.{Done}
 use Rattle.ground.specs.declared.Answer.the-variants.{Refused as AnswerRefused}
 use Rattle.sets.specs.declared.Set.{Set}
 use Rattle.refusals.specs.Rules.{verdictRules}
-use Rattle.refusals.specs.Fits.{verdict-met}
+use Rattle.refusals.specs.Fits.{VerdictFits, verdict-fits, verdict-met}
 use Rattle.ground.specs.AnswerLaws.{number-of-answer, answer-done, answer-refused}
 use Rattle.scheme.specs.Maps.{allInvertible}
 use Rattle.scheme.specs.Verdict.{verdictRefusals}
@@ -39,6 +39,12 @@ refused-is n ok not-zero = rw (ne-eqb n 0 not-zero)
 -- the lowest refusal that the lengths alone give
 abbrev pub byLengths : Set → (public abq target key signature : List ℕ) → ℕ
 byLengths set public abq target key signature = lowest (verdictRules set (length public) (length abq) (length target) (length key) (length signature))
+
+-- where there is none, every length fits
+pub lengths-fit : (set : Set) (public abq target key signature : List ℕ) {n : ℕ} → n ≡ byLengths set public abq target key signature → n ≡ 0
+    → VerdictFits set (length public) (length abq) (length target) (length key) (length signature)
+lengths-fit set public abq target key signature is zero =
+    verdict-fits set (length public) (length abq) (length target) (length key) (length signature) (sym is ∙ zero)
 
 module _ (set : Set) (public abq target key signature : List ℕ) (ok : Bool) where
   -- the lengths' refusal
@@ -66,12 +72,12 @@ module _ (set : Set) (public abq target key signature : List ℕ) (ok : Bool) wh
       refused-is number ok (λ z. answer-refused _ answer refused (sym same ∙ z)) ∙ ap (λ m. verdictOf m ok) (same ∙ sym (after-lengths is zero))
 
   -- no refusal: the comparison decides
-  pub compared : {n : ℕ} {a : Answer} {x : Bool} → n ≡ byLengths set public abq target key signature → n ≡ 0
-      → a ≡ answerOf (lowest (unless 21 (allInvertible set abq) ∷ [])) → a ≡ Done → x ≡ ok
-      → pick x Accepted NotAccepted ≡ verdictOf (lowest (verdictRefusals set public abq target key signature)) ok
-  compared is zero answer done x-is =
+  pub compared : {n : ℕ} {a : Answer} {x y : Bool} → n ≡ byLengths set public abq target key signature → n ≡ 0
+      → a ≡ answerOf (lowest (unless 21 (allInvertible set abq) ∷ [])) → a ≡ Done → x ≡ ok → x ≡ y
+      → pick y Accepted NotAccepted ≡ verdictOf (lowest (verdictRefusals set public abq target key signature)) ok
+  compared is zero answer done x-is y-is =
       let none : lowest (verdictRefusals set public abq target key signature) ≡ 0 = after-lengths is zero ∙ answer-done _ answer done in
-      rw (eq-eqb _ _ none, x-is)
+      rw (eq-eqb _ _ none, sym y-is, x-is)
 
 only-met : (t : Bool) → _≡_ {A = ℕ} (lowest (unless 21 t ∷ [])) 0 → t ≡ true
 unfolding lowest

@@ -40,7 +40,8 @@ lookups-none table scalars first stride place step = sum-none field-ring _
 pub lookups-next : (table scalars : List ℕ) (first stride place step x : ℕ) {w : ℕ} → w ≡ lookups table scalars first stride place step x
     → add w (lookedUp table (first + x * stride) (getD scalars (place + x * step) 0)) ≡ lookups table scalars first stride place step (x + 1)
 unfolding lookups
-lookups-next table scalars first stride place step x e = ap (λ w. add w (lookedUp table (first + x * stride) (getD scalars (place + x * step) 0))) e ∙ sym (sum-more field-ring x _)
+lookups-next table scalars first stride place step x e =
+    ap (λ w. add w (lookedUp table (first + x * stride) (getD scalars (place + x * step) 0))) e ∙ sym (sum-more field-ring x _)
 
 -- the first x columns of the matrices are done
 unfoldable pub columnLookups : (table scalars : List ℕ) (first l place count x : ℕ) → ℕ

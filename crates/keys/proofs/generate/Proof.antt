@@ -18,7 +18,8 @@ keygen-refusal-requires c κs = search needs
 write-key-requires : tie.Need-write-key-requires
 write-key-requires c κs =
     let args = c .before .before .before .before .before .before .args in
-    let fits = keygen-fits (args .set) (length (args .public .now)) (length (args .private .now)) (length (args .key .now)) (sym (c .before .before .keygen-refusal .ensures) ∙ c .before .if1 .taken) in
+    let none = sym (c .before .before .keygen-refusal .ensures) ∙ c .before .if1 .taken in
+    let fits = keygen-fits (args .set) (length (args .public .now)) (length (args .private .now)) (length (args .key .now)) none in
     (bounds (args .set) (fits .allowed), (fits .public, fits .private, fits .output))
 
 answer-of-requires : tie.Need-answer-of-requires

@@ -48,20 +48,23 @@ write-elements-requires c κs =
 
 clear-spare-requires : tie.Need-clear-spare-requires
 clear-spare-requires c κs =
-    let begin = c .before .before .before .before .before .before .before .before .before .before .before .before .before .before .before .before .before .before .before .before in
-    (begin .pre .0, c .before .before .before .before .before .write-elements .kept .0 ∙ begin .pre .1 .2)
+    let written = c .before .before .before .before .before in
+    let begin = written .before .before .before .before .before .before .before .before .before .before .before .before .before .before .before in
+    (begin .pre .0, written .write-elements .kept .0 ∙ begin .pre .1 .2)
 
 same-length : tie.Need-same-length
 same-length c = c .before .before .clear-spare .kept .0 ∙ c .before .before .before .before .before .before .before .before .write-elements .kept .0
 
 returns : tie.Need-returns
 returns c =
-    let begin = c .before .before .before .before .before .before .before .before .before .before .before .before .before .before .before .before .before .before .before .before .before .before .before in
     let clear-spare = c .before .before .clear-spare in
     let write-elements = c .before .before .before .before .before .before .before .before .write-elements in
+    let filled = c .before .before .before .before .before .before .before .before .before .before .before .before .before .before in
+    let begin = filled .before .before .before .before .before .before .before .before .before in
+    let a = begin .args in
     let bytes : Bytes (clear-spare .last .0) = record { below = λ k. omega (arith, c .slice-known3 .given k) } in
-    key-whole (begin .args .set) (begin .args .public .now) (begin .args .private .now) (write-elements .ensures) (c .before .before .before .before .before .before .before .before .before .before .before .before .before .before .private-table .ensures .holds)
-    (clear-spare .ensures) bytes (clear-spare .kept .0 ∙ write-elements .kept .0 ∙ begin .pre .1 .2)
+    let long = clear-spare .kept .0 ∙ write-elements .kept .0 ∙ begin .pre .1 .2 in
+    key-whole (a .set) (a .public .now) (a .private .now) (write-elements .ensures) (filled .private-table .ensures .holds) (clear-spare .ensures) bytes long
 
 pub write-key-spec : {M : Type 1} → statement M
 write-key-spec =

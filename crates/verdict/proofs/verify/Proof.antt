@@ -1,11 +1,8 @@
 -- `verdict::verify` meets its contract: the lengths' refusal, then 21 as Algorithm 2's helper gives it, then the comparison. Rests on Promise.
-use mathlib.Core.Path.{sym, _∙_}
 use mathlib.Core.Bool.{Bool}
-use lib.ListN.{length}
 use Rattle.sets.specs.Bounds.{bounds}
-use Rattle.refusals.specs.Fits.{verdict-fits}
 use Rattle.scheme.specs.Verdict.{accepted}
-use Rattle.verdict.specs.Promise.{refused-lengths, refused-21, compared, all-invertible-met}
+use Rattle.verdict.specs.Promise.{lengths-fit, refused-lengths, refused-21, compared, all-invertible-met}
 use borrow.Author.Needs.{needs}
 use Rattle.verdict.proofs.verify.Statement.{statement}
 use Rattle.verdict.proofs.verify.Tie as tie
@@ -27,10 +24,9 @@ returns c =
 all-invertible-requires : tie.Need-all-invertible-requires
 all-invertible-requires c κs =
     let a = c .before .before .before .before .before .before .before .args in
-    let f =
-    verdict-fits (a .set) (length (a .public .now)) (length (a .abq .now)) (length (a .target .now)) (length (a .key .now)) (length (a .signature .now))
-    (sym (c .before .verdict-refusal .ensures) ∙ c .if1 .left) in
-    (bounds (a .set) (f .allowed), f .abq)
+    let fits =
+    lengths-fit (a .set) (a .public .now) (a .abq .now) (a .target .now) (a .key .now) (a .signature .now) (c .before .verdict-refusal .ensures) (c .if1 .left) in
+    (bounds (a .set) (fits .allowed), fits .abq)
 
 enum-told : tie.Need-enum-told
 enum-told c = search needs
@@ -53,11 +49,10 @@ accepts-requires : tie.Need-accepts-requires
 accepts-requires c κs =
     let passed = c .before .before .before in
     let a = passed .before .before .before .before .before .before .before .args in
-    let f =
-    verdict-fits (a .set) (length (a .public .now)) (length (a .abq .now)) (length (a .target .now)) (length (a .key .now)) (length (a .signature .now))
-    (sym (passed .before .verdict-refusal .ensures) ∙ passed .if1 .left) in
+    let fits =
+    lengths-fit (a .set) (a .public .now) (a .abq .now) (a .target .now) (a .key .now) (a .signature .now) (passed .before .verdict-refusal .ensures) (passed .if1 .left) in
     let invertible = all-invertible-met (a .set) (a .abq .now) (c .before .before .all-invertible .ensures) (c .enum-told .given .1) in
-    ((bounds (a .set) (f .allowed), f .public, f .abq, invertible), (f .target, f .key, f .signature))
+    ((bounds (a .set) (fits .allowed), fits .public, fits .abq, invertible), (fits .target, fits .key, fits .signature))
 
 returns-3 : tie.Need-returns-3
 returns-3 c =
@@ -66,7 +61,7 @@ returns-3 c =
     let a = begin .args in
     compared (a .set) (a .public .now) (a .abq .now) (a .target .now) (a .key .now) (a .signature .now) (compares begin)
     (passed .before .verdict-refusal .ensures) (passed .if1 .left) (c .before .before .before .before .all-invertible .ensures) (c .before .before .enum-told .given .1)
-    (sym (c .if2 .taken) ∙ c .before .accepts .ensures)
+    (c .before .accepts .ensures) (c .if2 .taken)
 
 returns-4 : tie.Need-returns-4
 returns-4 c =
@@ -75,7 +70,7 @@ returns-4 c =
     let a = begin .args in
     compared (a .set) (a .public .now) (a .abq .now) (a .target .now) (a .key .now) (a .signature .now) (compares begin)
     (passed .before .verdict-refusal .ensures) (passed .if1 .left) (c .before .before .before .before .all-invertible .ensures) (c .before .before .enum-told .given .1)
-    (sym (c .if2 .left) ∙ c .before .accepts .ensures)
+    (c .before .accepts .ensures) (c .if2 .left)
 
 pub verify-spec : {M : Type 1} → statement M
 verify-spec =

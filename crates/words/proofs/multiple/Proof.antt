@@ -52,7 +52,10 @@ loop-less : tie.Need-loop-less Inv-loop μ-loop
 loop-less c = search needs
 
 loop-again : tie.Need-loop-again Inv-loop μ-loop
-loop-again c = let turn = c .before .before in (search needs, multiple-next _ _ _ _ _ (turn .loop-test .taken) (turn .before .loop .inv .0) (turn .before .loop .inv .1) (c .mul .ensures))
+loop-again c =
+    let turn = c .before .before in
+    let inv = turn .before .loop .inv in
+    (search needs, multiple-next _ _ _ _ _ (turn .loop-test .taken) (inv .0) (inv .1) (c .mul .ensures))
 
 returns : tie.Need-returns Inv-loop μ-loop
 returns c = let none : c .before .loop .c ≡ 0 = omega arith in c .before .loop .inv .1 ∙ ap (multipleFrom _ _ _ _) none ∙ multiple-end _ _ _ _

@@ -18,7 +18,9 @@ same-length : tie.Need-same-length
 same-length c = search needs
 
 returns : tie.Need-returns
-returns c = spare-put (c .before .before .before .before .before .before .before .args .set) (c .before .before .before .before .before .key-count .ensures) (c .before .before .put .ensures)
+returns c =
+    let counted = c .before .before .before .before .before in
+    spare-put (counted .before .before .args .set) (counted .key-count .ensures) (c .before .before .put .ensures)
 
 returns-2 : tie.Need-returns-2
 returns-2 c = spare-none (c .before .before .before .args .set) (c .before .key-count .ensures) (c .if1 .left)

@@ -1,6 +1,7 @@
 -- `keys::elements::put_p22` meets its contract. The invariant: the first q rows of l elements are written. Rests on Elements and Places.
 use mathlib.Core.Path.{refl}
 use Prim.Native.Nat.{_+_, _-_}
+use Rattle.sets.specs.Bounds.{Products}
 use Rattle.keys.specs.Places.{PutTurn, put-turn, key-within}
 use Rattle.keys.specs.Elements.{rowPlace, Putting, putting-none, putting-next, putting-end}
 use borrow.Author.Needs.{needs}
@@ -20,6 +21,9 @@ start c = c .before .before .before .before
 -- the row of this turn, in the table and in the key
 turn : (c : tie.In-loop Inv-loop μ-loop) → PutTurn (start c .args .set) (start c .args .i) (c .before .loop .q)
 turn c = put-turn (start c .pre .0) (start c .pre .1 .0 .0) (c .loop-test .taken)
+
+products : (c : tie.In-loop Inv-loop μ-loop) → Products (start c .args .set)
+products c = start c .pre .0 .products
 
 mul-count : tie.Need-mul-count Inv-loop μ-loop
 mul-count c = omega (arith, c .before .before .pre .0 .products .oo)
@@ -46,49 +50,31 @@ div-j-2 : tie.Need-div-j-2 Inv-loop μ-loop
 div-j-2 c = omega (arith, turn c)
 
 mul-put-row : tie.Need-mul-put-row Inv-loop μ-loop
-mul-put-row c =
-    let begin = c .before .before .before .before .before in
-    omega (arith, turn (c .before), key-within (begin .pre .0) (begin .pre .1 .0 .1), begin .pre .0 .products)
+mul-put-row c = omega (arith, turn (c .before) .number, products (c .before) .oool)
 
 add-put-row : tie.Need-add-put-row Inv-loop μ-loop
-add-put-row c =
-    let begin = c .before .before .before .before .before in
-    omega (arith, turn (c .before), key-within (begin .pre .0) (begin .pre .1 .0 .1), begin .pre .0 .products)
+add-put-row c = omega (arith, turn (c .before) .number, products (c .before) .oool)
 
 mul-put-row-2 : tie.Need-mul-put-row-2 Inv-loop μ-loop
-mul-put-row-2 c =
-    let begin = c .before .before .before .before .before in
-    omega (arith, turn (c .before), key-within (begin .pre .0) (begin .pre .1 .0 .1), begin .pre .0 .products)
+mul-put-row-2 c = omega (arith, turn (c .before) .from, products (c .before) .oooll)
 
 mul-put-row-3 : tie.Need-mul-put-row-3 Inv-loop μ-loop
-mul-put-row-3 c =
-    let begin = c .before .before .before .before .before in
-    omega (arith, turn (c .before), key-within (begin .pre .0) (begin .pre .1 .0 .1), begin .pre .0 .products)
+mul-put-row-3 c = omega (arith, turn (c .before) .row, products (c .before) .ol)
 
 add-put-row-2 : tie.Need-add-put-row-2 Inv-loop μ-loop
-add-put-row-2 c =
-    let begin = c .before .before .before .before .before in
-    omega (arith, turn (c .before), key-within (begin .pre .0) (begin .pre .1 .0 .1), begin .pre .0 .products)
+add-put-row-2 c = omega (arith, turn (c .before) .row, products (c .before) .ol)
 
 mul-put-row-4 : tie.Need-mul-put-row-4 Inv-loop μ-loop
-mul-put-row-4 c =
-    let begin = c .before .before .before .before .before in
-    omega (arith, turn (c .before), key-within (begin .pre .0) (begin .pre .1 .0 .1), begin .pre .0 .products)
+mul-put-row-4 c = omega (arith, products (c .before) .ol)
 
 mul-put-row-5 : tie.Need-mul-put-row-5 Inv-loop μ-loop
-mul-put-row-5 c =
-    let begin = c .before .before .before .before .before in
-    omega (arith, turn (c .before), key-within (begin .pre .0) (begin .pre .1 .0 .1), begin .pre .0 .products)
+mul-put-row-5 c = omega (arith, turn (c .before) .place, products (c .before) .ooll)
 
 mul-put-row-6 : tie.Need-mul-put-row-6 Inv-loop μ-loop
-mul-put-row-6 c =
-    let begin = c .before .before .before .before .before in
-    omega (arith, turn (c .before), key-within (begin .pre .0) (begin .pre .1 .0 .1), begin .pre .0 .products)
+mul-put-row-6 c = omega (arith, turn (c .before) .block, products (c .before) .ol)
 
 add-put-row-3 : tie.Need-add-put-row-3 Inv-loop μ-loop
-add-put-row-3 c =
-    let begin = c .before .before .before .before .before in
-    omega (arith, turn (c .before), key-within (begin .pre .0) (begin .pre .1 .0 .1), begin .pre .0 .products)
+add-put-row-3 c = omega (arith, turn (c .before) .place, turn (c .before) .block, products (c .before) .ooll)
 
 put-row-requires : tie.Need-put-row-requires Inv-loop μ-loop
 put-row-requires c κs =
@@ -99,13 +85,17 @@ put-row-requires c κs =
     )
 
 add-q : tie.Need-add-q Inv-loop μ-loop
-add-q c = omega (arith, c .before .before .before .before .loop-test .taken, c .before .before .before .before .before .before .before .before .pre .0 .products .ool)
+add-q c =
+    let now = c .before .before .before .before in
+    omega (arith, now .loop-test .taken, start now .pre .0 .products .ool)
 
 loop-less : tie.Need-loop-less Inv-loop μ-loop
 loop-less c = search needs
 
 loop-again : tie.Need-loop-again Inv-loop μ-loop
-loop-again c = putting-next (c .before .before .before .before .before .loop .inv) (c .before .before .before .before .loop-test .taken) refl refl (c .before .before .put-row .ensures)
+loop-again c =
+    let now = c .before .before .before .before in
+    putting-next (now .before .loop .inv) (now .loop-test .taken) refl refl (c .before .before .put-row .ensures)
 
 same-length : tie.Need-same-length Inv-loop μ-loop
 same-length c = search needs

@@ -14,47 +14,65 @@ Inv-loop key₀ set public t f₀ k₀ i₀ key f k i = Writing set public t key
 abbrev μ-loop : tie.MeasureT-loop
 μ-loop key₀ set public t f₀ k₀ i₀ key f k i = set .o - i
 
+abbrev start : tie.At-loop Inv-loop μ-loop → tie.Start Inv-loop μ-loop
+start c = c .before .before .before .before .before .before
+
 loop-holds : tie.Need-loop-holds Inv-loop μ-loop
 loop-holds c = (writing-none, refl, refl)
 
 f21-table-requires : tie.Need-f21-table-requires Inv-loop μ-loop
 f21-table-requires c κs =
-    let begin = c .before .before .before .before .before .before .before .before .before in
-    (begin .pre .0, ((c .before .if1 .taken, begin .pre .1 .0 .0), (omega (arith, c .before .before .before .loop .inv .1, begin .pre .1 .1 .0), begin .pre .1 .0 .2)))
+    let at = c .before .before .before in
+    let s = start at in
+    (s .pre .0, ((c .before .if1 .taken, s .pre .1 .0 .0), (omega (arith, at .loop .inv .1, s .pre .1 .1 .0), s .pre .1 .0 .2)))
 
 p22-table-requires : tie.Need-p22-table-requires Inv-loop μ-loop
 p22-table-requires c κs =
-    let begin = c .before .before .before .before .before .before .before .before .before .before .before .before .before .before in
-    let loop = c .before .before .before .before .before .before .before .before .loop in
-    (begin .pre .0, ((c .before .before .before .before .before .before .if1 .taken, begin .pre .1 .0 .0), (omega (arith, loop .inv .2, begin .pre .1 .1 .1), begin .pre .1 .0 .2, omega (arith, loop .inv .1, c .before .before .before .before .f21-table .ensures .long, begin .pre .1 .1 .0))))
+    let at = c .before .before .before .before .before .before .before .before in
+    let s = start at in
+    let f-long = c .before .before .before .before .f21-table .ensures .long in (
+      s .pre .0,
+      (
+        (c .before .before .before .before .before .before .if1 .taken, s .pre .1 .0 .0),
+        (omega (arith, at .loop .inv .2, s .pre .1 .1 .1), s .pre .1 .0 .2, omega (arith, at .loop .inv .1, f-long, s .pre .1 .1 .0)),
+      ),
+    )
 
 put-p22-requires : tie.Need-put-p22-requires Inv-loop μ-loop
 put-p22-requires c κs =
-    let begin = c .before .before .before .before .before .before .before .before .before .before .before .before .before .before .before .before .before .before .before in
-    let p22-table = c .before .before .before .before .p22-table in
-    let loop = c .before .before .before .before .before .before .before .before .before .before .before .before .before .loop in
-    (begin .pre .0, ((c .before .before .before .before .before .before .before .before .before .before .before .if1 .taken, loop .inv .0 .long ∙ begin .pre .1 .0 .1, omega (arith, loop .inv .2, p22-table .ensures .long, begin .pre .1 .1 .1)), p22-table .ensures .below))
+    let turn = c .before .before .before .before .before .before .before .before .before .before .before in
+    let at = turn .before .before in
+    let s = start at in
+    let table = c .before .before .before .before .p22-table .ensures in (
+      s .pre .0,
+      ((turn .if1 .taken, at .loop .inv .0 .long ∙ s .pre .1 .0 .1, omega (arith, at .loop .inv .2, table .long, s .pre .1 .1 .1)), table .below),
+    )
 
 add-i : tie.Need-add-i Inv-loop μ-loop
-add-i c = omega (arith, c .before .before .before .before .before .before .before .before .before .before .before .before .before .before .if1 .taken, c .before .before .before .before .before .before .before .before .before .before .before .before .before .before .before .before .before .before .before .before .before .before .pre .0 .limits)
+add-i c =
+    let turn = c .before .before .before .before .before .before .before .before .before .before .before .before .before .before in
+    omega (arith, turn .if1 .taken, start (turn .before .before) .pre .0 .limits .o-most)
 
 loop-less : tie.Need-loop-less Inv-loop μ-loop
-loop-less c = omega (arith, c .before .before .before .before .before .before .before .before .before .before .before .before .before .before .if1 .taken)
+loop-less c =
+    let turn = c .before .before .before .before .before .before .before .before .before .before .before .before .before .before in
+    omega (arith, turn .if1 .taken)
 
 loop-again : tie.Need-loop-again Inv-loop μ-loop
 loop-again c =
-    let begin = c .before .before .before .before .before .before .before .before .before .before .before .before .before .before .before .before .before .before .before .before .before .before in
-    let p22-table = c .before .before .before .before .before .before .before .p22-table in
-    let f21-table = c .before .before .before .before .before .before .before .before .before .before .before .before .f21-table in
-    let loop = c .before .before .before .before .before .before .before .before .before .before .before .before .before .before .before .before .loop in
-    let set = begin .args .set in
-    let public = begin .args .public .now in
-    let i = loop .i in (
-      writing-next (loop .inv .0) (c .before .before .before .before .before .before .before .before .before .before .before .before .before .before .if1 .taken)
-          (λ private h. p22-holds set public private i h (f21-holds set public private i h (f21-table .ensures .holds)) (p22-table .ensures .holds))
+    let turn = c .before .before .before .before .before .before .before .before .before .before .before .before .before .before in
+    let at = turn .before .before in
+    let p22-table = c .before .before .before .before .before .before .before .p22-table .ensures in
+    let f21-table = c .before .before .before .before .before .before .before .before .before .before .before .before .f21-table .ensures in
+    let inv = at .loop .inv in
+    let set = start at .args .set in
+    let public = start at .args .public .now in
+    let i = at .loop .i in (
+      writing-next (inv .0) (turn .if1 .taken)
+          (λ private h. p22-holds set public private i h (f21-holds set public private i h (f21-table .holds)) (p22-table .holds))
           (c .before .before .put-p22 .ensures),
-      f21-table .ensures .long ∙ loop .inv .1,
-      p22-table .ensures .long ∙ loop .inv .2,
+      f21-table .long ∙ inv .1,
+      p22-table .long ∙ inv .2,
     )
 
 same-length : tie.Need-same-length Inv-loop μ-loop

@@ -27,11 +27,14 @@ add-p21-requires c κs =
 
 add-left-requires : tie.Need-add-left-requires
 add-left-requires c κs =
-    let s = c .before .before .before .before .before .before .before .before .before .before .before .before .before .before in
+    let numbered = c .before .before .before .before .before .before .before .before .before in
+    let s = numbered .before .before .before .before .before in
     let set = s .args .set in
     let places = public-places (s .pre .0) (s .pre .1 .0 .0) (s .pre .1 .0 .1) in
-    let room = kept-room (kept-room (s .pre .1 .1 .0) (c .before .before .before .before .before .before .before .clear .kept .0)) (c .before .before .before .add-p21 .kept .0) in (
-      (omega (arith, room), (omega (arith, s .pre .1 .1 .1), number-within (set .v * set .v) (set .l * set .l) (c .before .before .before .before .before .before .before .before .before .p11-number .ensures .is) (places .p11))),
+    let within = number-within (set .v * set .v) (set .l * set .l) (numbered .p11-number .ensures .is) (places .p11) in
+    let cleared = kept-room (s .pre .1 .1 .0) (c .before .before .before .before .before .before .before .clear .kept .0) in
+    let room = kept-room cleared (c .before .before .before .add-p21 .kept .0) in (
+      (omega (arith, room), (omega (arith, s .pre .1 .1 .1), within)),
       (v-blocks-room (s .pre .0), (some-l (s .pre .0), some-v (s .pre .0))),
     )
 
@@ -40,9 +43,11 @@ same-length c = search needs
 
 returns : tie.Need-returns
 returns c =
-    let a = c .before .before .before .before .before .before .before .before .before .before .before .before .before .before .before .before .before .args in
-    f21-filled (a .set) (a .public .now) (a .t .now) (a .i) (c .before .before .before .before .before .before .before .before .before .before .clear .ensures) (c .before .before .before .before .before .before .before .before .before .before .before .before .p11-number .ensures .is)
-    (c .before .before .before .before .before .before .add-p21 .ensures) (c .before .before .add-left .ensures)
+    let numbered = c .before .before .before .before .before .before .before .before .before .before .before .before in
+    let a = numbered .before .before .before .before .before .args in
+    let cleared = c .before .before .before .before .before .before .before .before .before .before .clear .ensures in
+    let p21 = c .before .before .before .before .before .before .add-p21 .ensures in
+    f21-filled (a .set) (a .public .now) (a .t .now) (a .i) cleared (numbered .p11-number .ensures .is) p21 (c .before .before .add-left .ensures)
 
 pub f21-table-spec : {M : Type 1} → statement M
 f21-table-spec =

@@ -22,13 +22,13 @@ clear-requires c κs = search needs
 
 add-left-requires : tie.Need-add-left-requires
 add-left-requires c κs =
-    let s = c .before .before .before .before .before .before .before .before .before .before in
+    let numbered = c .before .before .before .before .before in
+    let s = numbered .before .before .before .before .before in
     let set = s .args .set in
     let places = public-places (s .pre .0) (s .pre .1 .0 .0) (s .pre .1 .0 .1) in
-    let room = kept-room (s .pre .1 .1 .0) (c .before .before .before .clear .kept .0) in (
-      (omega (arith, room), (s .pre .1 .1 .1, number-within (set .v * set .o) (set .l * set .l) (c .before .before .before .before .before .p12-number .ensures .is) (places .p12))),
-      (o-blocks-room (s .pre .0), (some-l (s .pre .0), some-o (s .pre .0))),
-    )
+    let within = number-within (set .v * set .o) (set .l * set .l) (numbered .p12-number .ensures .is) (places .p12) in
+    let room = kept-room (s .pre .1 .1 .0) (c .before .before .before .clear .kept .0) in
+    ((omega (arith, room), (s .pre .1 .1 .1, within)), (o-blocks-room (s .pre .0), (some-l (s .pre .0), some-o (s .pre .0))))
 
 mul-add-times : tie.Need-mul-add-times
 mul-add-times c = omega (arith, c .before .before .before .before .before .before .before .before .before .before .before .before .before .before .pre .0 .products .vl)
@@ -36,7 +36,8 @@ mul-add-times c = omega (arith, c .before .before .before .before .before .befor
 add-times-requires : tie.Need-add-times-requires
 add-times-requires c κs =
     let s = c .before .before .before .before .before .before .before .before .before .before .before .before .before .before in
-    let room = kept-room (kept-room (s .pre .1 .1 .0) (c .before .before .before .before .before .before .before .clear .kept .0)) (c .before .before .before .add-left .kept .0) in
+    let cleared = kept-room (s .pre .1 .1 .0) (c .before .before .before .before .before .before .before .clear .kept .0) in
+    let room = kept-room cleared (c .before .before .before .add-left .kept .0) in
     (omega (arith, room), (s .pre .1 .1 .2, s .pre .1 .1 .1))
 
 same-length : tie.Need-same-length
@@ -44,9 +45,11 @@ same-length c = search needs
 
 returns : tie.Need-returns
 returns c =
-    let a = c .before .before .before .before .before .before .before .before .before .before .before .before .before .before .before .before .before .args in
-    p22-filled (a .set) (a .public .now) (a .t .now) (a .f .now) (a .i) (c .before .before .before .before .before .before .before .before .before .before .clear .ensures) (c .before .before .before .before .before .before .before .before .before .before .before .before .p12-number .ensures .is)
-    (c .before .before .before .before .before .before .add-left .ensures) (c .before .before .add-times .ensures)
+    let numbered = c .before .before .before .before .before .before .before .before .before .before .before .before in
+    let a = numbered .before .before .before .before .before .args in
+    let cleared = c .before .before .before .before .before .before .before .before .before .before .clear .ensures in
+    let added = c .before .before .before .before .before .before .add-left .ensures in
+    p22-filled (a .set) (a .public .now) (a .t .now) (a .f .now) (a .i) cleared (numbered .p12-number .ensures .is) added (c .before .before .add-times .ensures)
 
 pub p22-table-spec : {M : Type 1} → statement M
 p22-table-spec =

@@ -172,26 +172,30 @@ slice-aggregate-add-outer-2 c = search needs
 
 add-outer-requires : tie.Need-add-outer-requires
 add-outer-requires c κs =
-    let known = c .before .before .before .before .before .before .before .before .before .before .before .before in
+    let filled = c .before .before .before .before .before .before .before .before in
+    let known = filled .before .before .before .before in
     let s = start known in
     let limits = s .pre .0 .bounds .limits in (
       (omega (arith, limits .l-least), (small known, s .pre .1 .1 .0 .0)),
-      (omega (arith, limits .o-most, length-zeros 825, c .before .before .before .before .before .before .before .before .fill-sides .kept .0), bt-long (c .before .before .before)),
+      (omega (arith, limits .o-most, length-zeros 825, filled .fill-sides .kept .0), bt-long (c .before .before .before)),
     )
 
 slice-aggregate-add-outer-3 : tie.Need-slice-aggregate-add-outer-3
 slice-aggregate-add-outer-3 c = search needs
 
 slice-aggregate-add-outer-4 : tie.Need-slice-aggregate-add-outer-4
-slice-aggregate-add-outer-4 c = sym (a-size (c .before .before .before .before .before .before .before .before .before .before .before .before .before .before .before .before .before .before))
+slice-aggregate-add-outer-4 c =
+    let known = c .before .before .before .before .before .before .before .before .before .before .before .before .before .before .before .before .before .before in
+    sym (a-size known)
 
 add-outer-requires-2 : tie.Need-add-outer-requires-2
 add-outer-requires-2 c κs =
-    let known = c .before .before .before .before .before .before .before .before .before .before .before .before .before .before .before .before .before .before in
+    let filled = c .before .before .before .before .before .before .before .before .before .before .before in
+    let known = filled .before .before .before .before .before .before .before in
     let s = start known in
     let limits = s .pre .0 .bounds .limits in (
       (omega (arith, limits .l-least), (small known, s .pre .1 .1 .0 .1)),
-      (omega (arith, limits .o-most, length-zeros 825, c .before .before .before .before .before .before .before .before .before .before .before .fill-sides2 .kept .0), a-long known),
+      (omega (arith, limits .o-most, length-zeros 825, filled .fill-sides2 .kept .0), a-long known),
     )
 
 same-length : tie.Need-same-length
@@ -213,11 +217,14 @@ returns c =
     let g2-is = ap q (known .before .before .q2-number .ensures) in
     let b-block = b-is (s .pre .0) (a .abq .now) (s .pre .1 .0 .1) (made-b known .before .b-number .ensures) (made-b known .invertible-at2 .ensures) in
     let q1-is = lefts .before .before .before .combined .ensures in
-    let q2-is = lefts .before .before .combined2 .ensures in (
+    let q2-is = lefts .before .before .combined2 .ensures in
+    let bt-is = c .before .before .before .before .before .before .before .before .before .before .before .before .transposed .ensures in
+    let left-outer = c .before .before .before .before .before .before .before .before .add-outer .ensures in
+    let right-outer = c .before .before .add-outer2 .ensures in (
       left-products (s .pre .0) (a .abq .now) (a .left .now) (a .right .now) (a .sp .now) index-is g1-is g2-is (a-block known) b-block q1-is q2-is
-          (c .before .before .before .before .before .before .before .before .before .before .before .before .transposed .ensures) (lefts .fill-sides .ensures .0) (c .before .before .before .before .before .before .before .before .add-outer .ensures),
+          bt-is (lefts .fill-sides .ensures .0) left-outer,
       right-products (s .pre .0) (a .abq .now) (a .left .now) (a .right .now) (a .sp .now) index-is g1-is g2-is (a-block known) b-block q1-is q2-is
-          (rights .fill-sides2 .ensures .0) (c .before .before .add-outer2 .ensures),
+          (rights .fill-sides2 .ensures .0) right-outer,
     )
 
 pub add-term-spec : {M : Type 1} → statement M

@@ -38,18 +38,16 @@ slice-aggregate-add-left c = search needs
 add-left-requires : tie.Need-add-left-requires
 add-left-requires c κs =
     let s = c .before .before .before .before .before .before .before in
-    let set = s .args .set in (
-      (omega (arith, sizes s .llvl, length-zeros 4800), (s .pre .1 .1 .0, number-within (set .v * set .v) (set .l * set .l) (c .before .before .p11-number .ensures .is) (places s .p11))),
-      (sizes s .lvl, (sizes s .positive-l, sizes s .positive-v)),
-    )
+    let set = s .args .set in
+    let within = number-within (set .v * set .v) (set .l * set .l) (c .before .before .p11-number .ensures .is) (places s .p11) in
+    ((omega (arith, sizes s .llvl, length-zeros 4800), (s .pre .1 .1 .0, within)), (sizes s .lvl, (sizes s .positive-l, sizes s .positive-v)))
 
 add-left-requires-2 : tie.Need-add-left-requires-2
 add-left-requires-2 c κs =
     let s = c .before .before .before .before .before .before .before .before .before .before in
-    let set = s .args .set in (
-      (s .pre .0 .1 .1, (s .pre .1 .1 .0, number-within (set .v * set .o) (set .l * set .l) (c .before .before .before .before .p12-number .ensures .is) (places s .p12))),
-      (sizes s .lol, (sizes s .positive-l, sizes s .positive-o)),
-    )
+    let set = s .args .set in
+    let within = number-within (set .v * set .o) (set .l * set .l) (c .before .before .before .before .p12-number .ensures .is) (places s .p12) in
+    ((s .pre .0 .1 .1, (s .pre .1 .1 .0, within)), (sizes s .lol, (sizes s .positive-l, sizes s .positive-o)))
 
 mul-add-times : tie.Need-mul-add-times
 mul-add-times c =
@@ -64,20 +62,25 @@ mul-add-times-2 c =
 
 add-times-requires : tie.Need-add-times-requires
 add-times-requires c κs =
-    let s = c .before .before .before .before .before .before .before .before .before .before .before .before .before .before .before in (
-      kept-room (s .pre .0 .1 .1) (c .before .before .before .before .add-left2 .kept .0),
-      (kept-room (kept-room (sizes s .llvl) (length-zeros 4800)) (c .before .before .before .before .before .before .before .add-left .kept .0), s .pre .1 .1 .1),
-    )
+    let added = c .before .before .before .before .before .before .before in
+    let s = added .before .before .before .before .before .before .before .before in
+    let z-room = kept-room (kept-room (sizes s .llvl) (length-zeros 4800)) (added .add-left .kept .0) in
+    (kept-room (s .pre .0 .1 .1) (c .before .before .before .before .add-left2 .kept .0), (z-room, s .pre .1 .1 .1))
 
 same-length : tie.Need-same-length
 same-length c = search needs
 
 returns : tie.Need-returns
 returns c =
-    let a = c .before .before .before .before .before .before .before .before .before .before .before .before .before .before .before .before .before .before .args in
+    let numbered = c .before .before .before .before .before .before .before .before .before .before .before .before in
+    let a = numbered .before .before .before .before .before .before .args in
     let set = a .set in
-    let p11 = left-at (set .l) (set .v) (a .x .now) (set .l * set .l) (a .public .now) (set .v) (c .before .before .before .before .before .before .before .before .before .before .before .before .before .p11-number .ensures .is) (c .before .before .before .before .before .before .before .before .before .before .add-left .ensures) in
-    let p12 = left-at (set .l) (set .v) (a .x .now) (set .l * set .l) (a .public .now) (set .o) (c .before .before .before .before .before .before .before .before .before .before .before .before .p12-number .ensures .is) (c .before .before .before .before .before .before .before .add-left2 .ensures) in
+    let p11-is = numbered .before .p11-number .ensures .is in
+    let p12-is = numbered .p12-number .ensures .is in
+    let first = c .before .before .before .before .before .before .before .before .before .before .add-left .ensures in
+    let second = c .before .before .before .before .before .before .before .add-left2 .ensures in
+    let p11 = left-at (set .l) (set .v) (a .x .now) (set .l * set .l) (a .public .now) (set .v) p11-is first in
+    let p12 = left-at (set .l) (set .v) (a .x .now) (set .l * set .l) (a .public .now) (set .o) p12-is second in
     rows-then p12 (times-loaded (set .v * set .l) (a .t .now) (c .before .before .add-times .ensures) (zero-rows (zero-at 4800) p11))
 
 pub add-left-index-spec : {M : Type 1} → statement M

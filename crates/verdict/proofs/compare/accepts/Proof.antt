@@ -1,5 +1,5 @@
 -- `verdict::compare::accepts` meets its contract: the two tables, and the comparison of every equation. Rests on Compare and Places.
-use mathlib.Core.Path.{_∙_}
+use mathlib.Core.Path.{sym, _∙_}
 use Rattle.rows.specs.Zero.{length-zeros}
 use Rattle.tables.specs.Rooms.{sums-room}
 use Rattle.verdict.specs.Places.{table-room}
@@ -10,7 +10,7 @@ use Rattle.verdict.proofs.compare.accepts.Statement.{statement}
 use Rattle.verdict.proofs.compare.accepts.Tie as tie
 
 slice-aggregate-signature-table : tie.Need-slice-aggregate-signature-table
-slice-aggregate-signature-table c = search needs
+slice-aggregate-signature-table c = sym (length-zeros 5440)
 
 signature-table-requires : tie.Need-signature-table-requires
 signature-table-requires c κs =
@@ -18,10 +18,10 @@ signature-table-requires c κs =
     (s .pre .0 .0, s .pre .1 .2, omega (arith, table-room (s .pre .0 .0), length-zeros 5440))
 
 slice-aggregate-all-sums : tie.Need-slice-aggregate-all-sums
-slice-aggregate-all-sums c = search needs
+slice-aggregate-all-sums c = sym (length-zeros 2560)
 
 slice-aggregate-all-sums-2 : tie.Need-slice-aggregate-all-sums-2
-slice-aggregate-all-sums-2 c = search needs
+slice-aggregate-all-sums-2 c = sym (c .before .before .before .signature-table .kept .0 ∙ length-zeros 5440)
 
 all-sums-requires : tie.Need-all-sums-requires
 all-sums-requires c κs =
@@ -36,7 +36,7 @@ all-sums-requires c κs =
     )
 
 slice-aggregate-all-equal : tie.Need-slice-aggregate-all-equal
-slice-aggregate-all-equal c = search needs
+slice-aggregate-all-equal c = sym (c .before .before .all-sums .kept .0 ∙ length-zeros 2560)
 
 all-equal-requires : tie.Need-all-equal-requires
 all-equal-requires c κs =
@@ -50,7 +50,7 @@ returns c =
     let a = s .args in
     let powers = c .before .before .before .before .before .before .before .signature-table .ensures in
     let sums = c .before .before .before .all-sums .ensures in
-    c .all-equal .ensures ∙ meets-accepted (s .pre .0 .0) (a .public .now) (a .abq .now) (a .key .now) (a .signature .now) (a .target .now) _ _ powers sums
+    meets-accepted (s .pre .0 .0) (a .public .now) (a .abq .now) (a .key .now) (a .signature .now) (a .target .now) (c .all-equal .ensures) powers sums
 
 pub accepts-spec : {M : Type 1} → statement M
 accepts-spec =

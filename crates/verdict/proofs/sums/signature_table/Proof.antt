@@ -1,5 +1,5 @@
 -- `verdict::sums::signature_table` meets its contract: the powers of S, the elements unpacked, and their products. Rests on Sums and Places.
-use mathlib.Core.Path.{refl, _∙_}
+use mathlib.Core.Path.{refl, sym, _∙_}
 use Rattle.rows.specs.Zero.{length-zeros}
 use Rattle.tables.specs.Rooms.{powers-room}
 use Rattle.verdict.specs.Places.{list-room, signature-within, few-variables}
@@ -13,7 +13,7 @@ add-n : tie.Need-add-n
 add-n c = omega (arith, few-variables (c .before .before .before .pre .0))
 
 slice-aggregate-powers-of-s : tie.Need-slice-aggregate-powers-of-s
-slice-aggregate-powers-of-s c = search needs
+slice-aggregate-powers-of-s c = sym (length-zeros 64)
 
 powers-of-s-requires : tie.Need-powers-of-s-requires
 powers-of-s-requires c κs =
@@ -21,7 +21,7 @@ powers-of-s-requires c κs =
     omega (arith, bounds .limits .l-most, powers-room bounds, length-zeros 64)
 
 slice-aggregate-unpack-all : tie.Need-slice-aggregate-unpack-all
-slice-aggregate-unpack-all c = search needs
+slice-aggregate-unpack-all c = sym (length-zeros 1360)
 
 mul-unpack-all : tie.Need-mul-unpack-all
 mul-unpack-all c = omega (arith, c .before .before .before .before .before .before .before .pre .0 .products .ll)
@@ -35,10 +35,10 @@ unpack-all-requires c κs =
     omega (arith, list-room (s .pre .0), length-zeros 1360, signature-within (s .pre .0) (s .args .signature .now) (s .pre .1))
 
 slice-aggregate-power-table : tie.Need-slice-aggregate-power-table
-slice-aggregate-power-table c = search needs
+slice-aggregate-power-table c = sym (c .before .before .before .unpack-all .ensures .long ∙ length-zeros 1360)
 
 slice-aggregate-power-table-2 : tie.Need-slice-aggregate-power-table-2
-slice-aggregate-power-table-2 c = search needs
+slice-aggregate-power-table-2 c = sym (c .before .before .before .before .before .before .before .powers-of-s .ensures .long ∙ length-zeros 64)
 
 power-table-requires : tie.Need-power-table-requires
 power-table-requires c κs =
