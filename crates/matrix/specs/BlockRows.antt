@@ -49,7 +49,8 @@ block-filled {l} M {t} p = block-ext t l M (p .long ∙ length-zeros 25) byte
           | yes b ↦
               let place : 0 + (e / 5 * 5 + e % 5) ≡ e = omega arith in
               let column : e % 5 < 5 = omega arith in
-              ap (λ x. getD t x 0) (sym place) ∙ p .inside (e / 5) (e % 5) b column ∙ ap (λ x. add x (blockRow l M (e / 5) (e % 5))) (zero-at 25 (0 + (e / 5 * 5 + e % 5))) ∙ zero-add (blockRow l M (e / 5) (e % 5))
+              let row = blockRow l M (e / 5) (e % 5) in
+              ap (λ x. getD t x 0) (sym place) ∙ p .inside (e / 5) (e % 5) b column ∙ ap (λ x. add x row) (zero-at 25 (0 + (e / 5 * 5 + e % 5))) ∙ zero-add row
               ∙ sym (rw (lt-ltb (e / 5) l b))
           | no b ↦
               let past : l ≤ e / 5 = omega arith in

@@ -80,7 +80,11 @@ pub loading-next : {l count : ℕ} {stream : List ℕ} {number e at place : ℕ}
     → Loading l count stream number (e + 1) u
 loading-next {l} {count} {stream} {number} {e} {at} {place} {t} {u} {flat} p h some laid at-is q = record {
   upto = omega arith;
-  so-far = λ r c k hr hc hk below. elim (decLt (r * l + c) e) [ yes b ↦ q .others (entryPlace l count r k c) (away r c k hc hk b) ∙ p .so-far r c k hr hc hk b | no b ↦ here r c k hr hc hk (omega arith) ];
+  so-far = λ r c k hr hc hk below.
+      elim (decLt (r * l + c) e) [
+        | yes b ↦ q .others (entryPlace l count r k c) (away r c k hc hk b) ∙ p .so-far r c k hr hc hk b
+        | no b ↦ here r c k hr hc hk (omega arith)
+      ];
 }
   where
     digits : e / l * l + e % l ≡ e

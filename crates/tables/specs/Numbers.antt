@@ -43,13 +43,6 @@ pub starts : {blocks number count n : ℕ} → n ≡ number → number + count �
 starts e h = record { is = e; within = omega arith }
 
 module _ {set : Set} (b : Bounds set) where
-  -- there are few blocks
-  pub few-public : publicBlocks set ≤ 400000
-  few-public = omega (arith, b .products .vvo, b .products .voo)
-
-  pub few-key : keyBlocks set ≤ 40000
-  few-key = omega (arith, b .products .ooo)
-
   -- blocks of a stream of the exact length stand in its bytes
   pub public-within : (public : List ℕ) {n : ℕ} → length public ≡ publicBytes set → n ≤ publicBlocks set → n * (set .l * set .l) ≤ 2 * length public
   unfolding publicBytes

@@ -4,7 +4,6 @@ use Rattle.rows.specs.Zero.{length-zeros}
 use Rattle.tables.specs.Rooms.{sums-room}
 use Rattle.verdict.specs.Places.{table-room}
 use Rattle.verdict.specs.Compare.{meets-accepted}
-use borrow.Author.Needs.{needs}
 use native.Mathlib.Omega.{arith}
 use Rattle.verdict.proofs.compare.accepts.Statement.{statement}
 use Rattle.verdict.proofs.compare.accepts.Tie as tie
