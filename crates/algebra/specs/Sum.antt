@@ -135,3 +135,14 @@ module _ {A : Type 0} {𝟘 : A} {_⊕_ _⊗_ : A → A → A} {tr : A → A} (R
       ≡ sum 𝟘 _⊕_ r (λ x. sum 𝟘 _⊕_ s (λ y. sum 𝟘 _⊕_ n (λ j. sum 𝟘 _⊕_ m (λ k. f j k x y))))
   double-swap n m r s f =
       sum-cong n (λ j h. sum-swap m r _ ∙ sum-cong r (λ x l. sum-swap m s _)) ∙ sum-swap n r _ ∙ sum-cong r (λ x l. sum-swap n s _)
+
+  -- The sum over a, b of x(a)·m(a, b)·t(b), beside two others, is taken from the right or from the left: the two ways to make P22.
+  pub sum-either-way : (v : ℕ) (x p q t : ℕ → A) (m : ℕ → ℕ → A)
+      → sum 𝟘 _⊕_ v (λ a. x a ⊗ (p a ⊕ sum 𝟘 _⊕_ v (λ b. m a b ⊗ t b))) ⊕ sum 𝟘 _⊕_ v (λ b. q b ⊗ t b)
+      ≡ sum 𝟘 _⊕_ v (λ a. x a ⊗ p a) ⊕ sum 𝟘 _⊕_ v (λ b. (q b ⊕ sum 𝟘 _⊕_ v (λ a. x a ⊗ m a b)) ⊗ t b)
+  sum-either-way v x p q t m =
+      let left : ℕ → A = λ a. sum 𝟘 _⊕_ v (λ b. x a ⊗ m a b ⊗ t b) in
+      let right : ℕ → A = λ b. sum 𝟘 _⊕_ v (λ a. x a ⊗ m a b ⊗ t b) in
+      simp (R .mul-add, R .add-mul, mul-sum, sum-mul, R .mul-assoc)
+      (rw (sum-add v (λ a. x a ⊗ p a) left, sum-add v (λ b. q b ⊗ t b) right, sum-swap v v (λ a b. x a ⊗ m a b ⊗ t b))
+      (simp (R .add-assoc, R .add-comm)))

@@ -7,8 +7,7 @@ use native.Mathlib.Nat.{le-refl}
 use native.Mathlib.Omega.{arith}
 use lib.Arith.{digits-div, digits-mod}
 use lib.ListN.{length}
-use Rattle.algebra.specs.Ring.{Ring}
-use Rattle.algebra.specs.Sum.{sum, sum-cong, sum-add, sum-mul, mul-sum, sum-swap}
+use Rattle.algebra.specs.Sum.{sum-cong, sum-either-way}
 use Rattle.field.specs.Field.{add}
 use Rattle.field.specs.Laws.{add-lt}
 use Rattle.sets.specs.declared.Set.{Set}
@@ -28,27 +27,13 @@ use Rattle.tables.specs.Sums.{leftGain, timesGain, rowsOf, times-lt, left-lt, l
 
 -- ---- P22 by F21
 
--- the sum over a, b of x(a)·m(a, b)·t(b), which both ways of making P22 have, is taken from the left or from the right
-module _ {A : Type 0} {𝟘 : A} {_⊕_ _⊗_ : A → A → A} {tr : A → A} (R : Ring 𝟘 _⊕_ _⊗_ tr) where
-  infixl 60 _⊕_
-  infixr 70 _⊗_
-  pub regrouped : (v : ℕ) (x p q t : ℕ → A) (m : ℕ → ℕ → A)
-      → sum 𝟘 _⊕_ v (λ a. x a ⊗ (p a ⊕ sum 𝟘 _⊕_ v (λ b. m a b ⊗ t b))) ⊕ sum 𝟘 _⊕_ v (λ b. q b ⊗ t b)
-      ≡ sum 𝟘 _⊕_ v (λ a. x a ⊗ p a) ⊕ sum 𝟘 _⊕_ v (λ b. (q b ⊕ sum 𝟘 _⊕_ v (λ a. x a ⊗ m a b)) ⊗ t b)
-  regrouped v x p q t m =
-      let left : ℕ → A = λ a. sum 𝟘 _⊕_ v (λ b. x a ⊗ m a b ⊗ t b) in
-      let right : ℕ → A = λ b. sum 𝟘 _⊕_ v (λ a. x a ⊗ m a b ⊗ t b) in
-      simp (R .mul-add, R .add-mul, mul-sum R, sum-mul R, R .mul-assoc)
-      (rw (sum-add R v (λ a. x a ⊗ p a) left, sum-add R v (λ b. q b ⊗ t b) right, sum-swap R v v (λ a b. x a ⊗ m a b ⊗ t b))
-      (simp (R .add-assoc, R .add-comm)))
-
 -- page 01's P22, made by F21
 pub key-by-f21 : (set : Set) (public private : List ℕ) (i j k : ℕ) → keyP22 set public private i j k
     ≡ addM (sumM (set .v) (λ a. mulM (set .l) (transpose (T12 set private a j)) (P12 set public i a k)))
     (sumM (set .v) (λ b. mulM (set .l) (F21 set public private i j b) (T12 set private b k)))
 unfolding keyP22 F12 F21
 key-by-f21 set public private i j k =
-    regrouped (matrices (set .l)) (set .v) (λ a. transpose (T12 set private a j)) (λ a. P12 set public i a k) (P21 set public i j) (λ b. T12 set private b k) (P11 set public i)
+    sum-either-way (matrices (set .l)) (set .v) (λ a. transpose (T12 set private a j)) (λ a. P12 set public i a k) (P21 set public i j) (λ b. T12 set private b k) (P11 set public i)
 
 -- ---- the tables
 

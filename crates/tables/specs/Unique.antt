@@ -17,7 +17,7 @@ use Rattle.tables.specs.Table.{Filled, filled-unique}
 use Rattle.tables.specs.Gains.{blocksRow, productRow}
 use Rattle.tables.specs.Unpacked.{Unpacked, unpacked-unique, listOf}
 use Rattle.tables.specs.Laid.{Laid}
-use Rattle.tables.specs.Sums.{HasRows, transposedGain, timesGain, rowsOf, leftGain}
+use Rattle.tables.specs.Sums.{transposedGain, timesGain, rowsOf, leftGain}
 
 pub unique-number-of-row : {blocks number count n m : ℕ} → Starts blocks number count n → Starts blocks number count m → n ≡ m
 unique-number-of-row a b = a .is ∙ sym (b .is)
@@ -64,8 +64,3 @@ pub unique-lay-blocks : (stream : List ℕ) (l number count : ℕ) {place place�
     → Laid l count stream number place′ flat′ → (k r c : ℕ) → k < count → r < l → c < l
     → getD flat (place + r * l + c + k * (l * l)) 0 ≡ getD flat′ (place′ + r * l + c + k * (l * l)) 0
 unique-lay-blocks stream l number count p q k r c hk hr hc = p .entry k r c hk hr hc ∙ sym (q .entry k r c hk hr hc)
-
-pub unique-load-blocks : (stream : List ℕ) (l number count : ℕ) {t u : List ℕ}
-    → HasRows l (count * l) (blocksRow l stream number) t → HasRows l (count * l) (blocksRow l stream number) u
-    → (r z : ℕ) → r < l → z < count * l → getD t (r * (count * l) + z) 0 ≡ getD u (r * (count * l) + z) 0
-unique-load-blocks stream l number count p q r z hr hz = p .at r z hr hz ∙ sym (q .at r z hr hz)

@@ -76,7 +76,7 @@ fn copy_column(
 
 // The first bytes of dst become the l rows of count blocks of the stream from block number on. The blocks are laid element after element first, and then entry (r, c)
 // of all of them is copied at once: the entries of one row of one block are too few to go by.
-pub fn load_blocks(dst: &mut [u8], l: usize, stream: &[u8], number: usize, count: usize)
+fn load_blocks(dst: &mut [u8], l: usize, stream: &[u8], number: usize, count: usize)
     requires { ⌜ (l * (count * l) ≤ length (now dst)) × (((number + count) * (l * l) ≤ 2 * length (now stream)) × (0 < l)) ⌝ }
     requires { ⌜ (l * (count * l) ≤ 1200) × (0 < count) ⌝ }
     ensures { λ _. ⌜ HasRows l (count * l) (blocksRow l (now (stream .entry)) number) (now (dst .exit)) ⌝ }
