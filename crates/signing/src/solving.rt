@@ -59,10 +59,10 @@ fn build_system(
     let mut x = [0u8; MOST_POWERS];
     load_vinegar(&mut x, set, vinegar, &sp);
     let mut left = [0u8; MOST_SIDES];
-    system::fill_left(&mut left, set, public, &x, &t);
+    partial_sums::fill_left(&mut left, set, public, &x, &t);
     let mut right = [0u8; MOST_SIDES];
     let mut sums = [0u8; MOST_SUMS];
-    system::fill_right(&mut right, &mut sums, set, public, &x, &t);
+    partial_sums::fill_right(&mut right, &mut sums, set, public, &x, &t);
     system::build(work, set, abq, target, &left, &right, &sums, &sp);
 }
 

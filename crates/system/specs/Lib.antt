@@ -1,7 +1,3 @@
-pub mod Products
-pub mod LeftRight
-pub mod Filled
-pub mod Places
 pub mod BlockRows
 pub mod Sides
 pub mod Equation

@@ -33,7 +33,7 @@ use Rattle.terms.specs.Terms.{equationFrom}
 use Rattle.terms.specs.FromSums.{HoldsSums, vinegar-from-sums}
 use Rattle.tables.specs.Table.{Holds}
 use Rattle.tables.specs.RingRows.{Powers}
-use Rattle.system.specs.Filled.{LeftHolds, RightHolds, SumsHold, sums-scheme, right-scheme, left-scheme}
+use Rattle.partial_sums.specs.Filled.{LeftHolds, RightHolds, SumsHold, sums-scheme, right-scheme, left-scheme}
 use Rattle.system.specs.Sides.{combinedFrom, sideOf}
 use Rattle.system.specs.Equation.{leftSide, rightSide, termCell, termRow, targetRow, Built}
 

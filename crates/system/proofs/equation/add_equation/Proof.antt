@@ -5,7 +5,7 @@ use lib.ListN.{length}
 use Rattle.rows.specs.Zero.{zeros, length-zeros, zero-at}
 use Rattle.sets.specs.Sets.{terms}
 use Rattle.tables.specs.Sums.{Summing, summing-none, summing-next, summing-end, zero-rows}
-use Rattle.system.specs.Places.{table-sizes}
+use Rattle.partial_sums.specs.Places.{table-sizes}
 use Rattle.system.specs.Equation.{leftTerm, rightTerm, equation-rows, products-fit}
 use borrow.Author.Needs.{needs}
 use native.Mathlib.Omega.{arith}

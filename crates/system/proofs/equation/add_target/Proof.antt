@@ -7,7 +7,7 @@ use Rattle.matrix.specs.Block.{length-block}
 use Rattle.terms.specs.Terms.{equationFrom}
 use Rattle.tables.specs.Sums.{Adding, adding-none, adding-next, adding-end}
 use Rattle.system.specs.Sides.{RowTurn, row-turn}
-use Rattle.system.specs.Places.{table-sizes}
+use Rattle.partial_sums.specs.Places.{table-sizes}
 use Rattle.system.specs.Equation.{targetAdded, target-step, target-rows, target-within}
 use borrow.Author.Needs.{needs}
 use native.Mathlib.Omega.{arith}

@@ -12,7 +12,7 @@ use Rattle.matrix.specs.RingElements.{coefficient}
 use Rattle.scheme.specs.Streams.{groupOf, A}
 use Rattle.terms.specs.Places.{size-allowed, a-within, b-within, q1-within, q2-within, index-lt, block-within, group-within}
 use Rattle.terms.specs.Adding.{a-is, b-is}
-use Rattle.system.specs.Places.{table-sizes}
+use Rattle.partial_sums.specs.Places.{table-sizes}
 use Rattle.system.specs.Equation.{left-products, right-products, TermPlaces, term-places}
 use borrow.Author.Needs.{needs}
 use native.Mathlib.Omega.{arith}

@@ -2,8 +2,8 @@
 use mathlib.Core.Path.{refl}
 use Prim.Native.Nat.{_+_, _*_, _-_, _≤_}
 use Rattle.rows.specs.PlusRows.{rows-then}
-use Rattle.system.specs.Products.{Stacking, stacking-none, stacking-next, stacking-end}
-use Rattle.system.specs.Places.{TableSizes, table-sizes, stack-fits}
+use Rattle.partial_sums.specs.Products.{Stacking, stacking-none, stacking-next, stacking-end}
+use Rattle.partial_sums.specs.Places.{TableSizes, table-sizes, stack-fits}
 use Rattle.system.specs.Equation.{systemRow, built}
 use borrow.Author.Needs.{needs}
 use native.Mathlib.Omega.{arith}

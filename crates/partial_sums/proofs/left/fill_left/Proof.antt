@@ -1,14 +1,14 @@
--- `system::left::fill_left` meets its contract. The invariant: the rows of the first i matrix indices are there. Rests on Filled.
+-- `partial_sums::left::fill_left` meets its contract. The invariant: the rows of the first i matrix indices are there. Rests on Filled.
 use mathlib.Core.Path.{refl}
 use Prim.Native.Nat.{_+_, _*_, _-_, _≤_}
-use Rattle.system.specs.Products.{Stacking, stacking-none, stacking-next, stacking-end}
-use Rattle.system.specs.LeftRight.{leftRow}
-use Rattle.system.specs.Filled.{left-filled}
-use Rattle.system.specs.Places.{TableSizes, table-sizes, stack-fits}
+use Rattle.partial_sums.specs.Products.{Stacking, stacking-none, stacking-next, stacking-end}
+use Rattle.partial_sums.specs.LeftRight.{leftRow}
+use Rattle.partial_sums.specs.Filled.{left-filled}
+use Rattle.partial_sums.specs.Places.{TableSizes, table-sizes, stack-fits}
 use borrow.Author.Needs.{needs}
 use native.Mathlib.Omega.{arith}
-use Rattle.system.proofs.left.fill_left.Statement.{statement}
-use Rattle.system.proofs.left.fill_left.Tie as tie
+use Rattle.partial_sums.proofs.left.fill_left.Statement.{statement}
+use Rattle.partial_sums.proofs.left.fill_left.Tie as tie
 
 abbrev Inv-loop : tie.InvT-loop
 Inv-loop left₀ set public x t o l i₀ left i = Stacking left₀ (set .l * set .l) (set .o * set .l) (set .o) (leftRow set public x t) i left

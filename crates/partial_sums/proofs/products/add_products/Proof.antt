@@ -1,10 +1,10 @@
--- `system::products::add_products` meets its contract. The invariant: y block rows are added, for every table whose multiples these are. Rests on Products.
+-- `partial_sums::products::add_products` meets its contract. The invariant: y block rows are added, for every table whose multiples these are. Rests on Products.
 use Prim.Native.Nat.{_-_}
-use Rattle.system.specs.Products.{Multiplying, multiplying-none, multiplying-next, multiplying-end, ProductTurn, product-turn}
+use Rattle.partial_sums.specs.Products.{Multiplying, multiplying-none, multiplying-next, multiplying-end, ProductTurn, product-turn}
 use borrow.Author.Needs.{needs}
 use native.Mathlib.Omega.{arith}
-use Rattle.system.proofs.products.add_products.Statement.{statement}
-use Rattle.system.proofs.products.add_products.Tie as tie
+use Rattle.partial_sums.proofs.products.add_products.Statement.{statement}
+use Rattle.partial_sums.proofs.products.add_products.Tie as tie
 
 abbrev Inv-loop : tie.InvT-loop
 Inv-loop dst₀ at n stream number l a count multiples y₀ dst y = Multiplying dst₀ at n stream number l a count multiples y dst

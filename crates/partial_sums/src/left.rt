@@ -6,8 +6,8 @@ ghost use lib.ListN.{length};
 ghost use Rattle.rows.specs.PlusRows.{PlusRows};
 ghost use Rattle.sets.specs.Bounds.{Bounds};
 ghost use Rattle.sets.specs.Sets.{publicBytes};
-ghost use Rattle.system.specs.LeftRight.{leftRow};
-ghost use Rattle.system.specs.Filled.{LeftHolds};
+ghost use Rattle.partial_sums.specs.LeftRight.{leftRow};
+ghost use Rattle.partial_sums.specs.Filled.{LeftHolds};
 use sets::Set;
 
 // Room for l·l rows of v·l bytes.

@@ -23,7 +23,7 @@ use Rattle.tables.specs.Table.{Holds}
 use Rattle.tables.specs.Gains.{productRow}
 use Rattle.tables.specs.Entries.{product-row-entry}
 use Rattle.tables.specs.Sums.{transposedGain, timesGain, leftGain, rowsOf, times-blocks, left-blocks}
-use Rattle.system.specs.Products.{productsRow}
+use Rattle.partial_sums.specs.Products.{productsRow}
 
 -- ---- rows of products, by blocks
 

@@ -1,4 +1,4 @@
--- `system::left::add_left_index` meets its contract: the sums with P12 are added, then those with P11 times T12. Rests on tables' Sums and Places.
+-- `partial_sums::left::add_left_index` meets its contract: the sums with P12 are added, then those with P11 times T12. Rests on tables' Sums and Places.
 use Prim.Native.Nat.{_*_}
 use lib.ListN.{length}
 use Rattle.rows.specs.Zero.{length-zeros, zero-at}
@@ -6,11 +6,11 @@ use Rattle.rows.specs.PlusRows.{rows-then}
 use Rattle.tables.specs.Rooms.{kept-room}
 use Rattle.tables.specs.Numbers.{PublicPlaces, public-places, number-within}
 use Rattle.tables.specs.Sums.{left-at, zero-rows, times-loaded}
-use Rattle.system.specs.Places.{TableSizes, table-sizes}
+use Rattle.partial_sums.specs.Places.{TableSizes, table-sizes}
 use native.Mathlib.Omega.{arith}
 use borrow.Author.Needs.{needs}
-use Rattle.system.proofs.left.add_left_index.Statement.{statement}
-use Rattle.system.proofs.left.add_left_index.Tie as tie
+use Rattle.partial_sums.proofs.left.add_left_index.Statement.{statement}
+use Rattle.partial_sums.proofs.left.add_left_index.Tie as tie
 
 -- where the blocks of matrix index i stand, and the sizes of the tables
 places : (s : tie.Start) → PublicPlaces (s .args .set) (s .args .i) (length (s .args .public .now))

@@ -1,17 +1,17 @@
--- `system::right::fill_by_multiples` meets its contract. The invariant: the rows of the first i matrix indices are there, in both tables. Rests on Filled.
+-- `partial_sums::right::fill_by_multiples` meets its contract. The invariant: the rows of the first i matrix indices are there, in both tables. Rests on Filled.
 use mathlib.Core.Path.{_≡_, refl}
 use Prim.Native.Nat.{_+_, _*_, _-_, _≤_}
 use lib.ListN.{length}
 use Rattle.rows.specs.Zero.{length-zeros}
 use Rattle.tables.specs.Sums.{transposed-loaded}
-use Rattle.system.specs.Products.{Stacking, stacking-none, stacking-next, stacking-end}
-use Rattle.system.specs.LeftRight.{rightRow, sumsRow}
-use Rattle.system.specs.Filled.{right-filled, sums-filled}
-use Rattle.system.specs.Places.{TableSizes, table-sizes, stack-fits}
+use Rattle.partial_sums.specs.Products.{Stacking, stacking-none, stacking-next, stacking-end}
+use Rattle.partial_sums.specs.LeftRight.{rightRow, sumsRow}
+use Rattle.partial_sums.specs.Filled.{right-filled, sums-filled}
+use Rattle.partial_sums.specs.Places.{TableSizes, table-sizes, stack-fits}
 use borrow.Author.Needs.{needs}
 use native.Mathlib.Omega.{arith}
-use Rattle.system.proofs.right.fill_by_multiples.Statement.{statement}
-use Rattle.system.proofs.right.fill_by_multiples.Tie as tie
+use Rattle.partial_sums.proofs.right.fill_by_multiples.Statement.{statement}
+use Rattle.partial_sums.proofs.right.fill_by_multiples.Tie as tie
 
 abbrev Inv-loop : tie.InvT-loop
 Inv-loop right₀ sums₀ set public x t multiples o l y₀ i₀ right sums y i =

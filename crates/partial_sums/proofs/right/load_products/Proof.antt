@@ -1,14 +1,14 @@
--- `system::right::load_products` meets its contract: zeros that gain the sums with P11. Rests on Products and Places.
+-- `partial_sums::right::load_products` meets its contract: zeros that gain the sums with P11. Rests on Products and Places.
 use Prim.Native.Nat.{_*_}
 use lib.ListN.{length}
 use Rattle.tables.specs.Sums.{zero-rows-from}
-use Rattle.system.specs.Products.{products-at}
+use Rattle.partial_sums.specs.Products.{products-at}
 use Rattle.tables.specs.Numbers.{PublicPlaces, public-places, number-within}
-use Rattle.system.specs.Places.{TableSizes, table-sizes}
+use Rattle.partial_sums.specs.Places.{TableSizes, table-sizes}
 use native.Mathlib.Omega.{arith}
 use borrow.Author.Needs.{needs}
-use Rattle.system.proofs.right.load_products.Statement.{statement}
-use Rattle.system.proofs.right.load_products.Tie as tie
+use Rattle.partial_sums.proofs.right.load_products.Statement.{statement}
+use Rattle.partial_sums.proofs.right.load_products.Tie as tie
 
 -- where the blocks of matrix index i stand, and the sizes of the tables
 places : (s : tie.Start) → PublicPlaces (s .args .set) (s .args .i) (length (s .args .public .now))

@@ -6,7 +6,7 @@ ghost use lib.ListN.{length};
 ghost use Rattle.rows.specs.PlusRows.{PlusRows};
 ghost use Rattle.words.specs.Multiples.{Multiples};
 ghost use Rattle.sets.specs.Sets.{mostL};
-ghost use Rattle.system.specs.Products.{productsRow};
+ghost use Rattle.partial_sums.specs.Products.{productsRow};
 
 // The a·l rows of n bytes from byte `at` on gain the a by count blocks of the stream from block number on, times the count block rows of a table in rows of n bytes.
 // `multiples` holds the multiples of that table's rows (crate words).

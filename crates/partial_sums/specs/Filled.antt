@@ -17,7 +17,7 @@ use Rattle.scheme.specs.Regroup.{powerTimes, powerSums, powerSums-by-right}
 use Rattle.scheme.specs.Coefficients.{leftP11, rightP11, leftPower, rightPower, left-power-sums, right-power-sums}
 use Rattle.tables.specs.Table.{Holds, cleared}
 use Rattle.tables.specs.Sums.{HasRows, zero-rows-from}
-use Rattle.system.specs.LeftRight.{rightRow, sumsRow, leftRow, rightP11From, leftP11From, sumsFrom, rightFrom, leftFrom, sums-blocks, right-blocks, left-row-blocks}
+use Rattle.partial_sums.specs.LeftRight.{rightRow, sumsRow, leftRow, rightP11From, leftP11From, sumsFrom, rightFrom, leftFrom, sums-blocks, right-blocks, left-row-blocks}
 
 -- block row i·n + j of a table in rows of w bytes is M i j, for i < o and j < n; the buffer keeps its length, and is zero behind the table
 pub record Stacked (l w o n m : ℕ) (M : ℕ → ℕ → ℕ → Matrix) (before after : List ℕ) : Type 0 where

@@ -9,8 +9,8 @@ ghost use Rattle.words.specs.Multiples.{Multiples};
 ghost use Rattle.sets.specs.Bounds.{Bounds};
 ghost use Rattle.sets.specs.Sets.{publicBytes};
 ghost use Rattle.tables.specs.Sums.{HasRows};
-ghost use Rattle.system.specs.LeftRight.{yRow, rightRow, sumsRow};
-ghost use Rattle.system.specs.Filled.{RightHolds, SumsHold};
+ghost use Rattle.partial_sums.specs.LeftRight.{yRow, rightRow, sumsRow};
+ghost use Rattle.partial_sums.specs.Filled.{RightHolds, SumsHold};
 use super::products::add_products;
 use sets::Set;
 

@@ -1,16 +1,16 @@
--- `system::right::add_right_index` meets its contract: the sums with P21 are added, then T12 transposed times those with P11. Rests on Products and Places.
+-- `partial_sums::right::add_right_index` meets its contract: the sums with P21 are added, then T12 transposed times those with P11. Rests on Products and Places.
 use Prim.Native.Nat.{_*_}
 use lib.ListN.{length}
 use Rattle.rows.specs.PlusRows.{rows-then}
 use Rattle.tables.specs.Rooms.{kept-room}
 use Rattle.tables.specs.Sums.{transposed-loaded}
-use Rattle.system.specs.Products.{products-at}
+use Rattle.partial_sums.specs.Products.{products-at}
 use Rattle.tables.specs.Numbers.{PublicPlaces, public-places, number-within}
-use Rattle.system.specs.Places.{TableSizes, table-sizes}
+use Rattle.partial_sums.specs.Places.{TableSizes, table-sizes}
 use native.Mathlib.Omega.{arith}
 use borrow.Author.Needs.{needs}
-use Rattle.system.proofs.right.add_right_index.Statement.{statement}
-use Rattle.system.proofs.right.add_right_index.Tie as tie
+use Rattle.partial_sums.proofs.right.add_right_index.Statement.{statement}
+use Rattle.partial_sums.proofs.right.add_right_index.Tie as tie
 
 -- where the blocks of matrix index i stand, and the sizes of the tables
 places : (s : tie.Start) → PublicPlaces (s .args .set) (s .args .i) (length (s .args .public .now))

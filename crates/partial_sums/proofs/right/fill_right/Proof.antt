@@ -1,10 +1,10 @@
--- `system::right::fill_right` meets its contract: the multiples of the rows of x are made first. Rests on words' Multiples.
+-- `partial_sums::right::fill_right` meets its contract: the multiples of the rows of x are made first. Rests on words' Multiples.
 use Rattle.rows.specs.Zero.{length-zeros}
-use Rattle.system.specs.Places.{table-sizes}
+use Rattle.partial_sums.specs.Places.{table-sizes}
 use borrow.Author.Needs.{needs}
 use native.Mathlib.Omega.{arith}
-use Rattle.system.proofs.right.fill_right.Statement.{statement}
-use Rattle.system.proofs.right.fill_right.Tie as tie
+use Rattle.partial_sums.proofs.right.fill_right.Statement.{statement}
+use Rattle.partial_sums.proofs.right.fill_right.Tie as tie
 
 slice-aggregate-multiply : tie.Need-slice-aggregate-multiply
 slice-aggregate-multiply c = search needs
