@@ -76,7 +76,3 @@ module _ {set : Set} (b : Bounds set) where
             let oil : set .o * (4 * 4) ≤ 160 = rw l-is at (b .limits .row) in
             rw l-is (omega (arith, b .limits .v-most))
       ]
-
-  -- a row of l·l elements is a word
-  pub square-room : set .l * set .l ≤ 16
-  square-room = b .products .ll

@@ -22,9 +22,13 @@ lookedUp table x s = add (getD table (x * 8 + s % 4) 0) (getD table (x * 8 + (4 
 unfoldable pub lookups : (table scalars : List ℕ) (first stride place step count : ℕ) → ℕ
 lookups table scalars first stride place step count = sum 0 add count (λ x. lookedUp table (first + x * stride) (getD scalars (place + x * step) 0))
 
--- a row of count l by l matrices among the scalars, from place on, times the rows of the table from first on
-unfoldable pub blockLookups : (table scalars : List ℕ) (first l place count : ℕ) → ℕ
-blockLookups table scalars first l place count = sum 0 add l (λ x. lookups table scalars (first + x) l (place + x) (l * l) count)
+-- the first x columns of a row of count l by l matrices among the scalars, from place on, times their rows of the table, which begins at first
+unfoldable pub columnLookups : (table scalars : List ℕ) (first l place count x : ℕ) → ℕ
+columnLookups table scalars first l place count x = sum 0 add x (λ y. lookups table scalars (first + y) l (place + y) (l * l) count)
+
+-- all l columns: the row times the rows of the table from first on
+abbrev pub blockLookups : (table scalars : List ℕ) (first l place count : ℕ) → ℕ
+blockLookups table scalars first l place count = columnLookups table scalars first l place count l
 
 -- element c of the product's row
 unfoldable pub blockSum : (src : List ℕ) (n : ℕ) (scalars : List ℕ) (first l place count : ℕ) → ℕ → ℕ
@@ -43,10 +47,6 @@ unfolding lookups
 lookups-next table scalars first stride place step x e =
     ap (λ w. add w (lookedUp table (first + x * stride) (getD scalars (place + x * step) 0))) e ∙ sym (sum-more field-ring x _)
 
--- the first x columns of the matrices are done
-unfoldable pub columnLookups : (table scalars : List ℕ) (first l place count x : ℕ) → ℕ
-columnLookups table scalars first l place count x = sum 0 add x (λ y. lookups table scalars (first + y) l (place + y) (l * l) count)
-
 pub columns-none : (table scalars : List ℕ) (first l place count : ℕ) → columnLookups table scalars first l place count 0 ≡ 0
 unfolding columnLookups
 columns-none table scalars first l place count = sum-none field-ring _
@@ -55,10 +55,6 @@ pub columns-next : (table scalars : List ℕ) (first l place count x : ℕ) {w u
     → u ≡ lookups table scalars (first + x) l (place + x) (l * l) count → add w u ≡ columnLookups table scalars first l place count (x + 1)
 unfolding columnLookups
 columns-next table scalars first l place count x e f = ap₂ add e f ∙ sym (sum-more field-ring x _)
-
-pub columns-end : (table scalars : List ℕ) (first l place count : ℕ) → columnLookups table scalars first l place count l ≡ blockLookups table scalars first l place count
-unfolding columnLookups blockLookups
-columns-end table scalars first l place count = refl
 
 -- ---- where the rows and the scalars stand
 
@@ -98,7 +94,7 @@ product {n} {count} {src} {table} m x s c hx hc =
 -- the word's elements are those of the product's row
 pub block-lookups : {n rows : ℕ} {src table : List ℕ} → Multiples n rows src table → (scalars : List ℕ) (first l place count : ℕ) → first + count * l ≤ rows
     → (c : ℕ) → c < n → nibble (blockLookups table scalars first l place count) c ≡ blockSum src n scalars first l place count c
-unfolding blockLookups lookups blockSum
+unfolding columnLookups lookups blockSum
 block-lookups {n} {rows} {src} {table} m scalars first l place count fits c hc =
     nibble-sum c l _ ∙ sum-cong field-ring l (λ x hx. nibble-sum c count _ ∙ sum-cong field-ring count (λ k hk. term x k hx hk))
   where

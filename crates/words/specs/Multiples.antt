@@ -64,20 +64,15 @@ pub factor-high : (q : ℕ) → 4 ≤ q → 4 * (q - 4) ≡ factorOf q
 unfolding factorOf
 factor-high q h = rw (le-ltb q 4 h)
 
-low-factor : (s : ℕ) → factorOf (s % 4) ≡ s % 4
-low-factor s = sym (factor-low (s % 4) (omega arith))
-
-high-factor : (s : ℕ) → factorOf (4 + s / 4 % 4) ≡ 4 * (s / 4 % 4)
-high-factor s =
-    let back : 4 + s / 4 % 4 - 4 ≡ s / 4 % 4 = omega arith in
-    sym (factor-high (4 + s / 4 % 4) (omega arith)) ∙ ap (λ x. 4 * x) back
-
 -- a scalar is read modulo 16; its product with y is that of its two halves
 pub product-halves : (s y : ℕ) → add (mul (factorOf (s % 4)) y) (mul (factorOf (4 + s / 4 % 4)) y) ≡ mul s y
 product-halves s y =
     let element : s % 16 ≡ s / 4 % 4 * 4 + s % 4 = mod-pow-add s 2 2 in
+    let back : 4 + s / 4 % 4 - 4 ≡ s / 4 % 4 = omega arith in
+    let low : factorOf (s % 4) ≡ s % 4 = sym (factor-low (s % 4) (omega arith)) in
+    let high : factorOf (4 + s / 4 % 4) ≡ 4 * (s / 4 % 4) = sym (factor-high (4 + s / 4 % 4) (omega arith)) ∙ ap (λ x. 4 * x) back in
     let both : add (factorOf (s % 4)) (factorOf (4 + s / 4 % 4)) ≡ s % 16 =
-    ap₂ add (low-factor s) (high-factor s) ∙ halves (s / 4 % 4) (s % 4) (omega arith) (omega arith) ∙ sym element in
+    ap₂ add low high ∙ halves (s / 4 % 4) (s % 4) (omega arith) (omega arith) ∙ sym element in
     sym (add-mul (factorOf (s % 4)) (factorOf (4 + s / 4 % 4)) y) ∙ ap (λ p. mul p y) both ∙ mul-mod-left s y
 
 -- ---- one multiple, from its last element to its first

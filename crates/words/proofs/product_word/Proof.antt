@@ -4,7 +4,7 @@ use Prim.Native.Nat.{ℕ, _+_, _*_, _-_, _<_, _≤_}
 use native.Mathlib.Nat.{mul-le-mul-right}
 use lib.ListN.{length}
 use Rattle.field.specs.Field.{add}
-use Rattle.words.specs.Lookups.{columnLookups, columns-none, columns-next, columns-end, row-inside, scalar-inside}
+use Rattle.words.specs.Lookups.{columnLookups, columns-none, columns-next, row-inside, scalar-inside}
 use borrow.Author.Needs.{needs}
 use native.Mathlib.Omega.{arith}
 use Rattle.words.proofs.product_word.Statement.{statement}
@@ -65,7 +65,7 @@ loop-again c = (search needs, columns-next _ _ _ _ _ _ _ (c .before .before .loo
 returns : tie.Need-returns Inv-loop μ-loop
 returns c =
     let all : c .before .loop .x ≡ c .before .before .before .before .args .l = omega arith in
-    c .before .loop .inv .1 ∙ ap (columnLookups _ _ _ _ _ _) all ∙ columns-end _ _ _ _ _ _
+    c .before .loop .inv .1 ∙ ap (columnLookups _ _ _ _ _ _) all
 
 pub product-word-spec : {M : Type 1} → statement M
 product-word-spec =

@@ -4,7 +4,7 @@ use Prim.Native.Nat.{_-_}
 use lib.ListN.{length}
 use Rattle.rows.specs.Zero.{length-zeros}
 use Rattle.tables.specs.Table.{cleared}
-use Rattle.verdict.specs.Places.{rows-room, square-room, few-variables}
+use Rattle.verdict.specs.Places.{rows-room, few-variables}
 use Rattle.verdict.specs.Sums.{Summing, summing-none, summing-next, summing-end}
 use borrow.Author.Needs.{needs}
 use native.Mathlib.Omega.{arith}
@@ -27,7 +27,7 @@ slice-aggregate-multiply : tie.Need-slice-aggregate-multiply Inv-loop μ-loop
 slice-aggregate-multiply c = search needs
 
 mul-multiply : tie.Need-mul-multiply Inv-loop μ-loop
-mul-multiply c = omega (arith, square-room (c .before .before .before .before .before .before .before .before .before .pre .0))
+mul-multiply c = omega (arith, c .before .before .before .before .before .before .before .before .before .pre .0 .products .ll)
 
 add-multiply : tie.Need-add-multiply Inv-loop μ-loop
 add-multiply c = omega (arith, few-variables (c .before .before .before .before .before .before .before .before .before .before .pre .0))
@@ -38,7 +38,7 @@ mul-multiply-2 c = omega (arith, rows-room (c .before .before .before .before .b
 multiply-requires : tie.Need-multiply-requires Inv-loop μ-loop
 multiply-requires c κs =
     let s = c .before .before .before .before .before .before .before .before .before .before in
-    (omega (arith, rows-room (s .pre .0), length-zeros 2720), (s .pre .1 .0 .1, square-room (s .pre .0)))
+    (omega (arith, rows-room (s .pre .0), length-zeros 2720), (s .pre .1 .0 .1, s .pre .0 .products .ll))
 
 loop-holds : tie.Need-loop-holds Inv-loop μ-loop
 loop-holds c =
