@@ -8,20 +8,22 @@ use mathlib.Core.List.{List}
 use Prim.Native.Nat.{ℕ, _<_}
 use native.Mathlib.Omega.{arith}
 use borrow.Author.Tests.{eq-eqb}
-use Rattle.ground.specs.Answers.{lowest}
+use Rattle.ground.specs.Answers.{first}
 use Rattle.packing.specs.Packing.{element}
 use Rattle.sets.specs.declared.Set.{Set}
 use Rattle.sets.specs.Sets.{publicCount, vinegarCount, targetCount, signatureCount}
-use Rattle.sets.specs.Bounds.{Limits, limits}
+use Rattle.sets.specs.Bounds.{Limits}
 use Rattle.scheme.specs.Streams.{vinegarOf}
-use Rattle.scheme.specs.Verdict.{verdictRefusals, accepted, zero-signature-elements}
+use Rattle.scheme.specs.Refusals.{verdictRefusals}
+use Rattle.scheme.specs.Verdict.{accepted, zero-signature-elements}
 use Rattle.verdict.specs.declared.Verdict.{Verdict}
 use Rattle.verdict.specs.declared.Verdict.the-variants.{Accepted, NotAccepted}
-use Rattle.verdict.specs.Promise.{verdictOf}
+use Rattle.verdict.specs.Promise.{verdictOf, Verifies}
 use Rattle.signing.specs.declared.Signing.{Signing}
 use Rattle.signing.specs.declared.Signing.the-variants.{Redo}
-use Rattle.signing.specs.Signs.{signRefusals, Signs}
-use Rattle.signing.specs.Refusals.{fits}
+use Rattle.scheme.specs.Refusals.{signRefusals}
+use Rattle.signing.specs.Signs.{Signs}
+use Rattle.checks.specs.Lent.{sign-lent}
 use Rattle.signing.specs.Unique.{redo-exactly}
 use Rattle.course.specs.ZeroLinear.{redo-zero-vinegar, redo-zero-public}
 
@@ -29,10 +31,10 @@ use Rattle.course.specs.ZeroLinear.{redo-zero-vinegar, redo-zero-public}
 
 module _ {set : Set} {public abq private vinegar target salt work output : List ℕ} {r : Signing} {work′ output′ : List ℕ}
     (signs : Signs set public abq private vinegar target salt work output r work′ output′)
-    (none : lowest (signRefusals set public abq private vinegar target salt work output) ≡ 0) where
+    (none : first (signRefusals set public abq private vinegar target salt work output) ≡ 0) where
   -- nothing is refused, so the set is an allowed one
   within : Limits set
-  within = limits set (fits set public abq private vinegar target salt work output none .allowed)
+  within = sign-lent set public abq private vinegar target salt work output none .bounds .limits
 
   -- Zero vinegar: redo, for every set.
   pub zero-vinegar-redo : ((e : ℕ) → e < vinegarCount set → element vinegar e ≡ 0) → r ≡ Redo
@@ -56,8 +58,8 @@ accepted-answer false n {r} none is = (λ a. never a, λ t. let bad : _≡_ {A =
 
 -- Zero signature elements: accepted exactly for a target whose elements are all 0, for every set.
 pub zero-signature-accepted : (set : Set) (public abq target key signature : List ℕ) {r : Verdict}
-    → r ≡ verdictOf (lowest (verdictRefusals set public abq target key signature)) (accepted set public abq key signature target)
-    → lowest (verdictRefusals set public abq target key signature) ≡ 0
+    → Verifies set public abq target key signature r
+    → first (verdictRefusals set public abq target key signature) ≡ 0
     → ((e : ℕ) → e < signatureCount set → element signature e ≡ 0)
     → (r ≡ Accepted) ↔ ((e : ℕ) → e < targetCount set → element target e ≡ 0)
 zero-signature-accepted set public abq target key signature is none zeros =

@@ -19,7 +19,7 @@ use Rattle.scheme.specs.Parts.{parts-12, parts-21}
 use Rattle.scheme.specs.Entries.{matrixIndex-lt}
 use Rattle.scheme.specs.Oil.{SentToZero, Redo}
 use Rattle.scheme.specs.Verdict.{zero-blocks}
-use Rattle.tables.specs.Numbers.{publicBlocks, p11-fits, p12-fits, p21-fits}
+use Rattle.streams.specs.Numbers.{publicBlocks, p11-fits, p12-fits, p21-fits}
 
 -- ---- matrices that are zero inside l
 
@@ -76,11 +76,11 @@ module _ (set : Set) (public private : List ℕ) (zeros : (e : ℕ) → e < publ
         (nought-sum (set .v) (λ a ha. right _ (public-block (p11Number set i a j) (omega (arith, p11-fits set hi ha)))))
 
   -- with a zero public stream it is zero at every vinegar and oil: each term has a matrix of F12 or F21 for a factor
-  pub linearPart-zero-public : (abq : List ℕ) (vinegar oil : ℕ → Matrix) (i : ℕ) → Same (set .l) (linearPart set public abq private vinegar oil i) zeroM
+  pub linearPart-zero-public : (abq : List ℕ) (vinegar oil : ℕ → Matrix) (i : ℕ) → i < set .o → Same (set .l) (linearPart set public abq private vinegar oil i) zeroM
   unfolding linearPart Split.linearPart
-  linearPart-zero-public abq vinegar oil i =
+  linearPart-zero-public abq vinegar oil i hi =
       nought-sum (terms set) (λ α h. nought-sum (set .v) (λ j hj. nought-sum (set .o) (λ k hk.
-      let below : matrixIndex set i α < set .o = matrixIndex-lt set (omega arith) i α in
+      let below : matrixIndex set i α < set .o = matrixIndex-lt set hi α in
       nought-add
       (right _ (right _ (right _ (left _ (same-trans (same-equal (parts-12 (set .v) _ _ _ _ j k hj)) (F12-zero below hj hk))))))
       (right _ (right _ (right _ (left _ (same-trans (same-equal (parts-21 (set .v) _ _ _ _ k j hj)) (F21-zero below hj hk)))))))))
@@ -97,8 +97,8 @@ module _ {set : Set} {public abq private : List ℕ} {vinegar : ℕ → Matrix} 
     nonzero = λ z. omega (arith, z .zero 0 0 0 some-o some-l some-l);
   }
 
-  linear-sent : {oil : ℕ → Matrix} → ((i : ℕ) → Nought (set .l) (linearPart set public abq private vinegar oil i)) → SentToZero set public abq private vinegar oil
-  linear-sent zero = record { zero = λ i r c hi hr hc. zero i .at r c hr hc }
+  linear-sent : {oil : ℕ → Matrix} → ((i : ℕ) → i < set .o → Nought (set .l) (linearPart set public abq private vinegar oil i)) → SentToZero set public abq private vinegar oil
+  linear-sent zero = record { zero = λ i r c hi hr hc. zero i hi .at r c hr hc }
 
 module _ (set : Set) (public abq private : List ℕ) (some-o : 0 < set .o) (some-l : 0 < set .l) where
   -- zero vinegar: some oil choice, not all zero, is sent to zero
@@ -106,7 +106,7 @@ module _ (set : Set) (public abq private : List ℕ) (some-o : 0 < set .o) (some
   unfolding vinegarOf vinegarCount
   redo-zero-vinegar vinegar zeros =
       all-sent-redo some-o some-l (λ oil.
-      linear-sent (linearPart-zero-vinegar set public abq private (zero-blocks (set .l) (set .v) vinegar zeros) oil))
+      linear-sent (λ i hi. linearPart-zero-vinegar set public abq private (zero-blocks (set .l) (set .v) vinegar zeros) oil i))
 
   -- a zero public stream: the same, whatever the vinegar is
   pub redo-zero-public : (vinegar : ℕ → Matrix) → ((e : ℕ) → e < publicCount set → element public e ≡ 0) → Redo set public abq private vinegar

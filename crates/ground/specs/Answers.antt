@@ -18,9 +18,9 @@ abbrev pub unless : ℕ → Bool → Rule
 unless n b = record { number = n; met = b }
 
 -- the number of the first rule that is not met, or 0: the lists below are in rising order, so the first is the lowest
-unfoldable pub lowest : List Rule → ℕ
-lowest [] = 0
-lowest (r ∷ rs) = pick (r .met) (lowest rs) (r .number)
+unfoldable pub first : List Rule → ℕ
+first [] = 0
+first (r ∷ rs) = pick (r .met) (first rs) (r .number)
 
 -- the page's number of an answer that has nothing but done and refused
 abbrev pub numberOf : Answer → ℕ
@@ -37,24 +37,24 @@ pub data Met : List Rule → Type 0 where
   met-more : {r : Rule} {rs : List Rule} → r .met ≡ true → Met rs → Met (r ∷ rs)
 
 -- with every rule met there is no refusal
-pub lowest-met : {rs : List Rule} → Met rs → lowest rs ≡ 0
-unfolding lowest
-lowest-met met-none = refl
-lowest-met (met-more {r = r} {rs = rs} e m) = rw e (lowest-met m)
+pub first-met : {rs : List Rule} → Met rs → first rs ≡ 0
+unfolding first
+first-met met-none = refl
+first-met (met-more {r = r} {rs = rs} e m) = rw e (first-met m)
 
 -- rules that follow others are looked at where those before are all met
-pub lowest-append : {rs : List Rule} (rs′ : List Rule) → Met rs → lowest (rs ++ rs′) ≡ lowest rs′
-unfolding lowest
-lowest-append rs′ met-none = refl
-lowest-append rs′ (met-more {r = r} {rs = rs} e m) = rw e (lowest-append rs′ m)
+pub first-append : {rs : List Rule} (rs′ : List Rule) → Met rs → first (rs ++ rs′) ≡ first rs′
+unfolding first
+first-append rs′ met-none = refl
+first-append rs′ (met-more {r = r} {rs = rs} e m) = rw e (first-append rs′ m)
 
 -- and where one of those before is not met, its number stands, whatever follows
-pub lowest-stands : (rs rs′ : List Rule) → (lowest rs ≡ 0 → ⊥) → lowest (rs ++ rs′) ≡ lowest rs
-unfolding lowest
-lowest-stands [] rs′ n = absurd (n refl)
-lowest-stands (r ∷ rs) rs′ n = by (r .met) refl (λ z. lowest-stands rs rs′ z)
+pub first-stands : (rs rs′ : List Rule) → (first rs ≡ 0 → ⊥) → first (rs ++ rs′) ≡ first rs
+unfolding first
+first-stands [] rs′ n = absurd (n refl)
+first-stands (r ∷ rs) rs′ n = by (r .met) refl (λ z. first-stands rs rs′ z)
   where
-    by : (b : Bool) → r .met ≡ b → ((lowest rs ≡ 0 → ⊥) → lowest (rs ++ rs′) ≡ lowest rs)
-        → pick (r .met) (lowest (rs ++ rs′)) (r .number) ≡ pick (r .met) (lowest rs) (r .number)
+    by : (b : Bool) → r .met ≡ b → ((first rs ≡ 0 → ⊥) → first (rs ++ rs′) ≡ first rs)
+        → pick (r .met) (first (rs ++ rs′)) (r .number) ≡ pick (r .met) (first rs) (r .number)
     by true e h = rw e (h (λ z. n (rw e z)))
     by false e h = rw e

@@ -1,16 +1,16 @@
--- "The lowest number that applies is given" (page 01, "Numbers a caller can receive"), said of any list of refusals: when a refusal applies, when it is the
--- lowest that does, when none does; and that `lowest` picks exactly that, where the numbers rise. Rests on Answers and Tests.
-use mathlib.Core.Path.{_≡_, refl, sym, ap, subst, _∙_}
+-- "The lowest number that applies is given" (page 01, "Numbers a caller can receive"): in a list whose numbers rise, the first that applies is the lowest.
+-- Rests on First.
+use mathlib.Core.Path.{_≡_, refl, sym, ap, _∙_}
 use mathlib.Core.Bool.{Bool, true, false}
 use mathlib.Core.Logic.{_↔_, _⊎_, inl, inr, ⊎-elim}
 use mathlib.Core.List.{List, [], _∷_, List·Memᴰ, List·Memᴰ·head, List·Memᴰ·tail, List·Memᴰ·not-nil, List·Memᴰ·cases-cons}
 use Prim.Native.Nat.{ℕ, _<_, _≤_}
-use native.Mathlib.Decide.{ℕ-discrete}
 use native.Mathlib.Omega.{arith}
 use lib.Dec.{T, ltb, ltb→lt}
 use Rattle.ground.specs.Pick.{both}
 use Rattle.ground.specs.Tests.{both-first, both-rest}
-use Rattle.ground.specs.Answers.{Rule, lowest}
+use Rattle.ground.specs.Answers.{Rule}
+use Rattle.ground.specs.First.{First, first-here, first-later}
 
 -- refusal n applies: there is a rule with this number whose condition is not met
 pub record Applies (n : ℕ) (rules : List Rule) : Type 0 where
@@ -24,10 +24,6 @@ pub record Lowest (n : ℕ) (rules : List Rule) : Type 0 where
   pub applies : Applies n rules
   pub least : (k : ℕ) → Applies k rules → n ≤ k
 
--- no refusal applies
-pub record NoneApplies (rules : List Rule) : Type 0 where
-  pub none : (k : ℕ) → Applies k rules → ⊥
-
 -- the numbers rise, and all are above a: a test, so that it computes on a list that is written out
 abbrev pub rising : ℕ → List Rule → Bool
 rising a [] = true
@@ -35,8 +31,8 @@ rising a (r ∷ rs) = both (ltb a (r .number)) (rising (r .number) rs)
 
 -- ---- the first rule, and those after it
 
-first-above : (a : ℕ) (r : Rule) (rs : List Rule) → T (rising a (r ∷ rs)) → a < r .number
-first-above a r rs t = ltb→lt a (r .number) (both-first (ltb a (r .number)) (rising (r .number) rs) t)
+head-above : (a : ℕ) (r : Rule) (rs : List Rule) → T (rising a (r ∷ rs)) → a < r .number
+head-above a r rs t = ltb→lt a (r .number) (both-first (ltb a (r .number)) (rising (r .number) rs) t)
 
 rest-rising : (a : ℕ) (r : Rule) (rs : List Rule) → T (rising a (r ∷ rs)) → T (rising (r .number) rs)
 rest-rising a r rs t = both-rest (ltb a (r .number)) (rising (r .number) rs) t
@@ -56,66 +52,44 @@ applies-cases {n} {r} {rs} p = by (List·Memᴰ·cases-cons (p .listed))
 applies-above : (a : ℕ) (rs : List Rule) → T (rising a rs) → (n : ℕ) → Applies n rs → a < n
 applies-above a [] t n p = absurd (List·Memᴰ·not-nil (p .listed))
 applies-above a (r ∷ rs) t n p =
-    let above = first-above a r rs t in
+    let above = head-above a r rs t in
     ⊎-elim (λ e. omega (arith, e .0)) (λ q. omega (arith, applies-above (r .number) rs (rest-rising a r rs t) n q)) (applies-cases p)
-
--- ---- what `lowest` picks
 
 not-both : {b : Bool} → b ≡ true → b ≡ false → ⊥
 not-both p q = let z : _≡_ {A = ℕ} 0 1 = cc in omega arith
 
--- a first rule that is met changes nothing
-none-past-met : {r : Rule} {rs : List Rule} → r .met ≡ true → ((k : ℕ) → Applies k rs → ⊥) → (k : ℕ) → Applies k (r ∷ rs) → ⊥
-none-past-met q none k p = ⊎-elim (λ e. not-both q (e .1)) (none k) (applies-cases p)
+-- ---- the first is the lowest
 
-lowest-past-met : {n : ℕ} {r : Rule} {rs : List Rule} → r .met ≡ true → Lowest n rs → Lowest n (r ∷ rs)
-lowest-past-met q w = record { applies = applies-later (w .applies); least = λ k p. ⊎-elim (λ e. absurd (not-both q (e .1))) (w .least k) (applies-cases p) }
-
--- one that is not met is the lowest
-unmet-lowest : (r : Rule) (rs : List Rule) → T (rising (r .number) rs) → r .met ≡ false → Lowest (r .number) (r ∷ rs)
-unmet-lowest r rs t q = record {
-  applies = record { rule = r; listed = List·Memᴰ·head refl; numbered = refl; unmet = q };
-  least = λ k p. ⊎-elim (λ e. omega (arith, e .0)) (λ s. omega (arith, applies-above (r .number) rs t k s)) (applies-cases p);
+lowest-of-first : (a : ℕ) {n : ℕ} {rs : List Rule} → T (rising a rs) → First n rs → Lowest n rs
+lowest-of-first a {n} t (first-here {r = r} {rs = rs} e q) = record {
+  applies = record { rule = r; listed = List·Memᴰ·head refl; numbered = e; unmet = q };
+  least = λ k p. ⊎-elim (λ s. omega (arith, s .0, e)) (λ s. omega (arith, applies-above (r .number) rs (rest-rising a r rs t) k s, e)) (applies-cases p);
 }
+lowest-of-first a {n} t (first-later {r = r} {rs = rs} q f) =
+    let w = lowest-of-first (r .number) (rest-rising a r rs t) f in
+    record { applies = applies-later (w .applies); least = λ k p. ⊎-elim (λ s. absurd (not-both q (s .1))) (w .least k) (applies-cases p) }
 
--- a number other than 0 that is picked is the lowest that applies
-picked : (a : ℕ) (rs : List Rule) → T (rising a rs) → (lowest rs ≡ 0 → ⊥) → Lowest (lowest rs) rs
-unfolding lowest
-picked a [] t some = absurd (some refl)
-picked a (r ∷ rs) t some = by (r .met) refl (picked (r .number) rs (rest-rising a r rs t))
+-- the lowest stands at the first rule that is not met
+first-of-lowest : (a : ℕ) (n : ℕ) (rs : List Rule) → T (rising a rs) → Lowest n rs → First n rs
+first-of-lowest a n [] t w = absurd (List·Memᴰ·not-nil (w .applies .listed))
+first-of-lowest a n (r ∷ rs) t w = by (r .met) refl (first-of-lowest (r .number) n rs (rest-rising a r rs t))
   where
-    by : (b : Bool) → r .met ≡ b → ((lowest rs ≡ 0 → ⊥) → Lowest (lowest rs) rs) → Lowest (lowest (r ∷ rs)) (r ∷ rs)
-    by true q later = let e : lowest (r ∷ rs) ≡ lowest rs = rw q in subst (λ m. Lowest m (r ∷ rs)) (sym e) (lowest-past-met q (later (λ z. some (e ∙ z))))
-    by false q later = let e : lowest (r ∷ rs) ≡ r .number = rw q in subst (λ m. Lowest m (r ∷ rs)) (sym e) (unmet-lowest r rs (rest-rising a r rs t) q)
+    later : r .met ≡ true → Lowest n rs
+    later q = record {
+      applies = ⊎-elim (λ s. absurd (not-both q (s .1))) (λ s. s) (applies-cases (w .applies));
+      least = λ k p. w .least k (applies-later p);
+    }
 
--- where 0 is picked none applies
-passed : (a : ℕ) (rs : List Rule) → T (rising a rs) → lowest rs ≡ 0 → (k : ℕ) → Applies k rs → ⊥
-unfolding lowest
-passed a [] t e k p = List·Memᴰ·not-nil (p .listed)
-passed a (r ∷ rs) t e k p = by (r .met) refl (λ z. passed (r .number) rs (rest-rising a r rs t) z) k p
-  where
-    by : (b : Bool) → r .met ≡ b → (lowest rs ≡ 0 → (k : ℕ) → Applies k rs → ⊥) → (k : ℕ) → Applies k (r ∷ rs) → ⊥
-    by true q later = none-past-met q (later (rw q at e))
-    by false q later = let z : r .number ≡ 0 = rw q at e in let above = first-above a r rs t in absurd (omega arith)
+    here : r .met ≡ false → r .number ≡ n
+    here q =
+        let first : Applies (r .number) (r ∷ rs) = record { rule = r; listed = List·Memᴰ·head refl; numbered = refl; unmet = q } in
+        let least = w .least (r .number) first in
+        ⊎-elim (λ s. s .0) (λ s. let above = applies-above (r .number) rs (rest-rising a r rs t) n s in absurd (omega arith)) (applies-cases (w .applies))
 
-module _ (a : ℕ) (rules : List Rule) (up : T (rising a rules)) where
-  -- a refusal is picked exactly where it is the lowest that applies
-  pub lowest-exactly : (n : ℕ) → 0 < n → (lowest rules ≡ n) ↔ Lowest n rules
-  lowest-exactly n h = (
-    (λ e. subst (λ m. Lowest m rules) e (picked a rules up (λ z. omega arith))),
-    (λ w. elim (ℕ-discrete (lowest rules) 0) [
-      | yes z ↦ absurd (passed a rules up z n (w .applies))
-      | no z ↦ let found = picked a rules up z in omega (arith, found .least n (w .applies), w .least (lowest rules) (found .applies))
-    ]),
-  )
+    by : (b : Bool) → r .met ≡ b → (Lowest n rs → First n rs) → First n (r ∷ rs)
+    by true q rest = first-later q (rest (later q))
+    by false q rest = first-here (here q) q
 
-  -- and 0 exactly where none applies
-  pub none-exactly : (lowest rules ≡ 0) ↔ NoneApplies rules
-  none-exactly = (
-    (λ e. record { none = passed a rules up e }),
-    (λ w. elim (ℕ-discrete (lowest rules) 0) [ yes z ↦ z | no z ↦ absurd (w .none (lowest rules) (picked a rules up z .applies)) ]),
-  )
-
-  -- a number that is picked is above the bound
-  pub lowest-above : (lowest rules ≡ 0 → ⊥) → a < lowest rules
-  lowest-above z = applies-above a rules up (lowest rules) (picked a rules up z .applies)
+-- in a list whose numbers rise the first that applies is the lowest
+pub lowest-exactly : (a : ℕ) (rs : List Rule) → T (rising a rs) → (n : ℕ) → First n rs ↔ Lowest n rs
+lowest-exactly a rs t n = (lowest-of-first a t, first-of-lowest a n rs t)

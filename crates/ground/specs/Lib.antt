@@ -5,6 +5,6 @@ pub mod Segment
 pub mod Place
 pub mod Answers
 pub mod AnswerLaws
-pub mod Lowest
+pub mod First
 pub mod Applies
 pub mod Outcome

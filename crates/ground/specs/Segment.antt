@@ -55,6 +55,10 @@ segment-unique {s} {t} {u} {base} {n} {f} a b = ext-getD 0 t u (a .long ∙ sym 
               ]
         ]
 
+-- the loop's last count is the one asked for
+pub segment-end : {s t : List ℕ} {base i n : ℕ} {f : ℕ → ℕ} → Segment s base i f t → i ≤ n → n ≤ i → Segment s base n f t
+segment-end {s} {t} {base} {f = f} g h l = subst (λ k. Segment s base k f t) (omega arith) g
+
 -- ---- a list that a loop fills from its first place on
 
 -- one place more

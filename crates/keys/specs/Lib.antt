@@ -1,5 +1,5 @@
 pub mod Generates
-pub mod Places
+pub mod KeyPlaces
 pub mod Parts
 pub mod Elements
 pub mod Unique

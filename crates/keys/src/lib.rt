@@ -12,12 +12,10 @@ ghost use Rattle.keys.specs.Generates.{Generates};
 use elements::clear_spare;
 use elements::write_elements;
 use ground::Answer;
+use sets::KEY_ROOM;
+use sets::POWERS_ROOM;
+use sets::PRIVATE_ROOM;
 use sets::Set;
-use tables::POWERS;
-use tables::PRIVATE;
-
-// Room for P22 of one i.
-const ONE_P22: usize = 5280;
 
 // Writes the key of a public and a private stream, whole. 10: the set; 11, 13, 20: the length of the public stream, the private stream, the key.
 // A refusal leaves the key as it was.
@@ -37,10 +35,10 @@ fn write_key(key: &mut [u8], set: Set, public: &[u8], private: &[u8])
     requires { ⌜ (length (now public) ≡ publicBytes set) × (length (now private) ≡ privateBytes set) × (length (now key) ≡ keyBytes set) ⌝ }
     ensures { λ _. ⌜ now (key .exit) ≡ keyOf set (now (public .entry)) (now (private .entry)) ⌝ }
 {
-    let mut sp = [0u8; POWERS];
-    let mut t = [0u8; PRIVATE];
-    let mut f = [0u8; PRIVATE];
-    let mut k = [0u8; ONE_P22];
+    let mut sp = [0u8; POWERS_ROOM];
+    let mut t = [0u8; PRIVATE_ROOM];
+    let mut f = [0u8; PRIVATE_ROOM];
+    let mut k = [0u8; KEY_ROOM];
     tables::powers_of_s(&mut sp, set.l);
     tables::private_table(&mut t, set, private, &sp);
     write_elements(key, set, public, &t, &mut f, &mut k);

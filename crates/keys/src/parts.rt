@@ -22,7 +22,7 @@ fn add_p21(f: &mut [u8], set: Set, public: &[u8], i: usize)
     let count = set.o * l;
     let mut y = 0;
     while y < count {
-        let p21 = tables::p21_number(set, i, y / l);
+        let p21 = streams::p21_number(set, i, y / l);
         tables::add_block_row(f, y * n, public, p21, l, y % l, v);
         y += 1;
     }
@@ -39,7 +39,7 @@ pub fn f21_table(f: &mut [u8], set: Set, public: &[u8], t: &[u8], i: usize)
     let l = set.l;
     let v = set.v;
     let w = set.o * l;
-    let p11 = tables::p11_number(set, i, 0);
+    let p11 = streams::p11_number(set, i, 0);
     rows::clear(f);
     add_p21(f, set, public, i);
     tables::add_left(f, 0, l, v, t, w, public, p11, v);
@@ -59,7 +59,7 @@ pub fn p22_table(k: &mut [u8], set: Set, public: &[u8], t: &[u8], f: &[u8], i: u
     let v = set.v;
     let o = set.o;
     let w = o * l;
-    let p12 = tables::p12_number(set, i, 0);
+    let p12 = streams::p12_number(set, i, 0);
     rows::clear(k);
     tables::add_left(k, 0, l, v, t, w, public, p12, o);
     tables::add_times(k, 0, w, w, f, v * l, t);

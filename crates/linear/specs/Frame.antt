@@ -7,6 +7,7 @@ use Prim.Native.Nat.{ℕ, _+_, _*_, _<_, _≤_}
 use native.Mathlib.Decide.{decLt}
 use native.Mathlib.Omega.{arith}
 use lib.ListN.{length, getD, set}
+use Rattle.sets.specs.Sets.{mostRow}
 use Rattle.ground.specs.Place.{row-fits}
 use Rattle.ground.specs.Segment.{Segment, segment-next}
 use Rattle.field.specs.Field.{add, mul}
@@ -19,10 +20,10 @@ use Rattle.linear.specs.Step.{Exchanged, Cleared, factor}
 
 -- row r of a system of n equations lies within the area
 pub record Within (g : List ℕ) (n r : ℕ) : Type 0 where
-  pub limit : n ≤ 160
+  pub limit : n ≤ mostRow
   pub ends : r * (n + 1) + (n + 1) ≤ length g
 
-pub within : {g : List ℕ} {n : ℕ} (r : ℕ) → n ≤ 160 → n * (n + 1) ≤ length g → r < n → Within g n r
+pub within : {g : List ℕ} {n : ℕ} (r : ℕ) → n ≤ mostRow → n * (n + 1) ≤ length g → r < n → Within g n r
 within {n = n} r limit fits h = record { limit = limit; ends = omega (arith, row-fits (n + 1) h) }
 
 -- row p, from row k on, has an entry in column k that is not zero

@@ -5,6 +5,7 @@ use mathlib.Core.Logic.{_≢_}
 use mathlib.Core.List.{List}
 use Prim.Native.Nat.{ℕ, _+_, _*_, _<_, _≤_}
 use lib.ListN.{length, getD}
+use Rattle.sets.specs.Sets.{mostRow}
 use Rattle.field.specs.Field.{add, mul}
 use Rattle.algebra.specs.Sum.{sum}
 use Rattle.linear.specs.declared.Outcome.{Outcome}
@@ -20,7 +21,7 @@ apply g n y r = sum 0 add n (λ c. mul (at g n r c) (y c))
 
 -- what elimination asks of the area that it is lent
 pub record Area (g : List ℕ) (n : ℕ) : Type 0 where
-  pub limit : n ≤ 160
+  pub limit : n ≤ mostRow
   pub fits : n * (n + 1) ≤ length g
   pub small : (r c : ℕ) → r < n → c ≤ n → at g n r c < 16
 

@@ -3,6 +3,7 @@
 ghost use mathlib.Core.Path.{_≡_};
 ghost use Prim.Native.Nat.{ℕ, _+_, _*_, _<_, _≤_};
 ghost use lib.ListN.{length};
+ghost use Rattle.sets.specs.Sets.{mostRow};
 ghost use Rattle.ground.specs.Segment.{Segment};
 ghost use Rattle.field.specs.Field.{mul};
 ghost use Rattle.rows.specs.PlusRows.{PlusRows};
@@ -11,10 +12,11 @@ ghost use Rattle.linear.specs.Step.{Reduced, factor as factorOf};
 ghost use Rattle.linear.specs.Row.{rowAt};
 ghost use Rattle.linear.specs.Frame.{Within, Pivot, PivotAt};
 ghost use Rattle.linear.specs.Progress.{Progress};
+use sets::MOST_ROW;
 
 // A row held apart from the area: up to 160 elements, and the right-hand element.
 pub struct Row {
-    pub elements: [u8; 160],
+    pub elements: [u8; MOST_ROW],
     pub right: u8,
 }
 
@@ -58,7 +60,7 @@ fn load(g: &[u8], n: usize, r: usize, s: u8) -> Row
     requires { ⌜ Within (now g) n r ⌝ }
     ensures { λ row. ⌜ ((c : ℕ) → c ≤ n → rowAt row n c ≡ mul s (at (now (g .entry)) n r c)) ⌝ }
 {
-    let mut elements = [0u8; 160];
+    let mut elements = [0u8; MOST_ROW];
     rows::add_scaled(&mut elements, 0, g, r * (n + 1), n, s);
     let right = field::mul(s, entry(g, n, r, n));
     Row { elements, right }
@@ -87,7 +89,7 @@ fn factor(g: &[u8], n: usize, k: usize, r: usize) -> u8
 
 // Every row but row k loses its entry in column k: it gains that entry times the pivot row, which has 1 there.
 fn clear_column(g: &mut [u8], n: usize, k: usize, row: Row)
-    requires { ⌜ (n ≤ 160) × ((n * (n + 1) ≤ length (now g)) × (k ≤ n)) ⌝ }
+    requires { ⌜ (n ≤ mostRow) × ((n * (n + 1) ≤ length (now g)) × (k ≤ n)) ⌝ }
     ensures { λ _. ⌜ PlusRows (now (g .entry)) 0 n (n + 1) (λ r c. mul (factorOf k (at (now (g .entry)) n) r) (rowAt row n c)) (now (g .exit)) ⌝ }
 {
     let mut r = 0;

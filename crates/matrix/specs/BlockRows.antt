@@ -15,7 +15,7 @@ use Rattle.rows.specs.Zero.{zeros, length-zeros, zero-at}
 use Rattle.rows.specs.Plus.{Plus, plus-sum-none, plus-sum-next}
 use Rattle.rows.specs.PlusRows.{PlusRows}
 use Rattle.matrix.specs.Matrix.{Matrix, mulM}
-use Rattle.matrix.specs.Block.{view, block, block-ext, cell, inside}
+use Rattle.matrix.specs.Block.{view, block, block-ext, cell, inside, blockBytes, stride}
 
 -- row r of M: its entries inside l, and nothing behind them
 unfoldable pub blockRow : (l : ℕ) (M : Matrix) → ℕ → ℕ → ℕ
@@ -34,27 +34,27 @@ widened {d} {t} {at} {n} {m} {f} w p = record {
   high = λ k h. p .high k (omega arith);
 }
 
-pub block-row : {l r at : ℕ} (M : Matrix) {d t : List ℕ} → l ≤ 5 → Plus d at l (M r) t → Plus d at 5 (blockRow l M r) t
+pub block-row : {l r at : ℕ} (M : Matrix) {d t : List ℕ} → l ≤ stride → Plus d at l (M r) t → Plus d at stride (blockRow l M r) t
 unfolding blockRow
 block-row M small p = widened small p
 
 -- zeros whose rows gained M
-pub block-filled : {l : ℕ} (M : Matrix) {t : List ℕ} → PlusRows (zeros 25) 0 l 5 (blockRow l M) t → t ≡ block l M
+pub block-filled : {l : ℕ} (M : Matrix) {t : List ℕ} → PlusRows (zeros blockBytes) 0 l stride (blockRow l M) t → t ≡ block l M
 unfolding blockRow cell inside
-block-filled {l} M {t} p = block-ext t l M (p .long ∙ length-zeros 25) byte
+block-filled {l} M {t} p = block-ext t l M (p .long ∙ length-zeros blockBytes) byte
   where
-    byte : (e : ℕ) → e < 25 → getD t e 0 ≡ cell l M e
+    byte : (e : ℕ) → e < blockBytes → getD t e 0 ≡ cell l M e
     byte e h =
-        elim (decLt (e / 5) l) [
+        elim (decLt (e / stride) l) [
           | yes b ↦
-              let place : 0 + (e / 5 * 5 + e % 5) ≡ e = omega arith in
-              let column : e % 5 < 5 = omega arith in
-              let row = blockRow l M (e / 5) (e % 5) in
-              ap (λ x. getD t x 0) (sym place) ∙ p .inside (e / 5) (e % 5) b column ∙ ap (λ x. add x row) (zero-at 25 (0 + (e / 5 * 5 + e % 5))) ∙ zero-add row
-              ∙ sym (rw (lt-ltb (e / 5) l b))
+              let place : 0 + (e / stride * stride + e % stride) ≡ e = omega arith in
+              let column : e % stride < stride = omega arith in
+              let row = blockRow l M (e / stride) (e % stride) in
+              ap (λ x. getD t x 0) (sym place) ∙ p .inside (e / stride) (e % stride) b column ∙ ap (λ x. add x row) (zero-at blockBytes (0 + (e / stride * stride + e % stride))) ∙ zero-add row
+              ∙ sym (rw (lt-ltb (e / stride) l b))
           | no b ↦
-              let past : l ≤ e / 5 = omega arith in
-              p .high e (omega arith) ∙ zero-at 25 e ∙ sym (rw (le-ltb (e / 5) l past))
+              let past : l ≤ e / stride = omega arith in
+              p .high e (omega arith) ∙ zero-at blockBytes e ∙ sym (rw (le-ltb (e / stride) l past))
         ]
 
 -- ---- a row of a product, entry by entry of the left factor
@@ -64,7 +64,7 @@ unfolding mulM
 product-row-none a b r = plus-sum-none (λ y c. mul (view a r y) (view b y c))
 
 pub product-row-next : (a b : List ℕ) (r y : ℕ) {d t u : List ℕ} {at l : ℕ} → Plus d at l (mulM y (view a) (view b) r) t
-    → Plus t at l (λ c. mul (getD a (r * 5 + y) 0) (getD b (y * 5 + c) 0)) u → Plus d at l (mulM (y + 1) (view a) (view b) r) u
+    → Plus t at l (λ c. mul (getD a (r * stride + y) 0) (getD b (y * stride + c) 0)) u → Plus d at l (mulM (y + 1) (view a) (view b) r) u
 unfolding mulM view
 product-row-next a b r y p q = plus-sum-next (λ y c. mul (view a r y) (view b y c)) p q
 

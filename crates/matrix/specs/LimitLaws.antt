@@ -5,23 +5,24 @@ use mathlib.Core.Bool.{Bool, true, false}
 use Prim.Native.Nat.{ℕ, _+_, _*_, _/_, _%_, _<_, _≤_}
 use native.Mathlib.Nat.{not-suc-le-zero}
 use native.Mathlib.Omega.{arith}
-use borrow.Author.Tests.{lt-ltb, le-ltb, ltb-true, leb-true}
-use lib.Dec.{leb, ltb}
-use Rattle.ground.specs.Pick.{both-left, both-right}
+use borrow.Author.Tests.{lt-ltb, le-ltb, ltb-true}
+use lib.Dec.{ltb}
 use Rattle.ground.specs.Tests.{every-at, every-true, every-fails}
+use Rattle.sets.specs.Sets.{leastL, mostL}
+use Rattle.sets.specs.Bounds.{from-to}
 use Rattle.matrix.specs.Matrix.{Matrix}
-use Rattle.matrix.specs.Block.{inside, inside-row, inside-column, cell, cell-at}
-use Rattle.matrix.specs.Limits.{leastSize, mostSize, sizeAllowed, entriesAllowed, coefficientsAllowed}
+use Rattle.matrix.specs.Block.{inside, inside-row, inside-column, cell, cell-at, blockBytes, stride}
+use Rattle.matrix.specs.Limits.{sizeAllowed, entriesAllowed, coefficientsAllowed}
 
 -- ---- sizes
 
-pub allowed-least : (l : ℕ) → sizeAllowed l ≡ true → leastSize ≤ l
+pub allowed-least : (l : ℕ) → sizeAllowed l ≡ true → leastL ≤ l
 unfolding sizeAllowed
-allowed-least l t = leb-true leastSize l (both-left (leb leastSize l) (leb l mostSize) t)
+allowed-least l t = from-to {least = leastL} {most = mostL} t .0
 
-pub allowed-most : (l : ℕ) → sizeAllowed l ≡ true → l ≤ mostSize
+pub allowed-most : (l : ℕ) → sizeAllowed l ≡ true → l ≤ mostL
 unfolding sizeAllowed
-allowed-most l t = leb-true l mostSize (both-right (leb leastSize l) (leb l mostSize) t)
+allowed-most l t = from-to {least = leastL} {most = mostL} t .1
 
 -- ---- coefficients
 
@@ -48,13 +49,13 @@ unfolding entriesAllowed
 entries-fail l M r c hr hc h = every-fails l _ r hr (every-fails l _ c hc (le-ltb (M r c) 16 h))
 
 -- the same, asked of the block's bytes
-pub cells-pass : (l : ℕ) (M : Matrix) → l ≤ 5 → ((e : ℕ) → e < 25 → cell l M e < 16) → entriesAllowed l M ≡ true
-cells-pass l M h below = entries-pass l M (λ r c hr hc. rw (cell-at l M r c h hr hc) at (below (r * 5 + c) (omega arith)))
+pub cells-pass : (l : ℕ) (M : Matrix) → l ≤ stride → ((e : ℕ) → e < blockBytes → cell l M e < 16) → entriesAllowed l M ≡ true
+cells-pass l M h below = entries-pass l M (λ r c hr hc. rw (cell-at l M r c h hr hc) at (below (r * stride + c) (omega arith)))
 
 pub cells-fail : (l : ℕ) (M : Matrix) (e : ℕ) → 15 < cell l M e → entriesAllowed l M ≡ false
 unfolding cell
 cells-fail l M e h = by (inside l e) refl
   where
     by : (b : Bool) → inside l e ≡ b → entriesAllowed l M ≡ false
-    by true t = entries-fail l M (e / 5) (e % 5) (inside-row l e t) (inside-column l e t) (rw t at h)
+    by true t = entries-fail l M (e / stride) (e % stride) (inside-row l e t) (inside-column l e t) (rw t at h)
     by false t = absurd (not-suc-le-zero (rw t at h))

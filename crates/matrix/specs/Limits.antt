@@ -1,25 +1,18 @@
--- What the public functions take: a size l within the limits, and elements 0 to 15. The limits on l stand here, and in the code's two constants, alone.
--- Rests on ground's rules and tests.
+-- What the public functions take: a size l within the limits that sets has, and elements 0 to 15.
+-- Rests on ground's rules and tests, and on sets' limits.
 use mathlib.Core.Bool.{Bool}
 use mathlib.Core.List.{List, [], _∷_}
 use Prim.Native.Nat.{ℕ}
-use lib.Dec.{leb, ltb}
-use Rattle.ground.specs.Pick.{both}
+use lib.Dec.{ltb}
 use Rattle.ground.specs.Tests.{every}
 use Rattle.ground.specs.Answers.{Rule, unless}
+use Rattle.sets.specs.Sets.{fromTo, leastL, mostL}
 use Rattle.matrix.specs.Matrix.{Matrix}
 use Rattle.matrix.specs.Invertible.{canBeInvertible}
 
--- the limits on l
-abbrev pub leastSize : ℕ
-leastSize = 2
-
-abbrev pub mostSize : ℕ
-mostSize = 4
-
 -- l is within the limits
 unfoldable pub sizeAllowed : ℕ → Bool
-sizeAllowed l = both (leb leastSize l) (leb l mostSize)
+sizeAllowed l = fromTo leastL mostL l
 
 -- every entry inside l is an element
 unfoldable pub entriesAllowed : ℕ → Matrix → Bool

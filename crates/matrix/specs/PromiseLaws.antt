@@ -6,7 +6,7 @@ use mathlib.Core.List.{List, [], _∷_}
 use Prim.Native.Nat.{ℕ}
 use native.Mathlib.Omega.{arith}
 use Rattle.ground.specs.Pick.{pick}
-use Rattle.ground.specs.Answers.{answerOf, unless, lowest, lowest-stands}
+use Rattle.ground.specs.Answers.{answerOf, unless, first, first-stands}
 use Rattle.ground.specs.declared.Answer.the-variants.{Done}
 use Rattle.matrix.specs.Matrix.{Matrix}
 use Rattle.matrix.specs.Invertible.{canBeInvertible}
@@ -22,22 +22,22 @@ pub makes-refused : {n : ℕ} {result : List ℕ} {r : Made} → (n ≡ 0 → �
 makes-refused n is zeros = record { answer = is; refused = λ z. zeros; done = λ e. absurd (n e) }
 
 -- two rules are met where no refusal is left
-two-met : (n m : ℕ) (a b : Bool) → (n ≡ 0 → ⊥) → (m ≡ 0 → ⊥) → lowest (unless n a ∷ unless m b ∷ []) ≡ 0 → (a ≡ true) × (b ≡ true)
-unfolding lowest
+two-met : (n m : ℕ) (a b : Bool) → (n ≡ 0 → ⊥) → (m ≡ 0 → ⊥) → first (unless n a ∷ unless m b ∷ []) ≡ 0 → (a ≡ true) × (b ≡ true)
+unfolding first
 two-met n m true true p q e = (refl, refl)
 two-met n m true false p q e = absurd (q e)
 two-met n m false b p q e = absurd (p e)
 
-pub matrix-met : (l : ℕ) (M : Matrix) → lowest (matrixRules l M) ≡ 0 → (sizeAllowed l ≡ true) × (entriesAllowed l M ≡ true)
+pub matrix-met : (l : ℕ) (M : Matrix) → first (matrixRules l M) ≡ 0 → (sizeAllowed l ≡ true) × (entriesAllowed l M ≡ true)
 matrix-met l M = two-met 10 23 (sizeAllowed l) (entriesAllowed l M) (omega arith) (omega arith)
 
-pub coefficients-met : (l : ℕ) (a : ℕ → ℕ) → lowest (coefficientRules l a) ≡ 0 → (sizeAllowed l ≡ true) × (coefficientsAllowed l a ≡ true)
+pub coefficients-met : (l : ℕ) (a : ℕ → ℕ) → first (coefficientRules l a) ≡ 0 → (sizeAllowed l ≡ true) × (coefficientsAllowed l a ≡ true)
 coefficients-met l a = two-met 10 23 (sizeAllowed l) (coefficientsAllowed l a) (omega arith) (omega arith)
 
 -- 21 is asked only of a matrix that is not refused by 10 or 23
-pub invertible-asked : (l : ℕ) (M : Matrix) → lowest (matrixRules l M) ≡ 0 → lowest (invertibleRules l M) ≡ pick (canBeInvertible l M) 0 21
-unfolding lowest
+pub invertible-asked : (l : ℕ) (M : Matrix) → first (matrixRules l M) ≡ 0 → first (invertibleRules l M) ≡ pick (canBeInvertible l M) 0 21
+unfolding first
 invertible-asked l M e = let met = matrix-met l M e in rw (met .0, met .1)
 
-pub invertible-stands : (l : ℕ) (M : Matrix) → (lowest (matrixRules l M) ≡ 0 → ⊥) → lowest (invertibleRules l M) ≡ lowest (matrixRules l M)
-invertible-stands l M n = lowest-stands (matrixRules l M) (unless 21 (canBeInvertible l M) ∷ []) n
+pub invertible-stands : (l : ℕ) (M : Matrix) → (first (matrixRules l M) ≡ 0 → ⊥) → first (invertibleRules l M) ≡ first (matrixRules l M)
+invertible-stands l M n = first-stands (matrixRules l M) (unless 21 (canBeInvertible l M) ∷ []) n

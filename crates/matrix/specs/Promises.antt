@@ -5,11 +5,11 @@ use mathlib.Core.List.{List}
 use Prim.Native.Nat.{ℕ}
 use lib.ListN.{getD}
 use Rattle.ground.specs.Fill.{tab}
-use Rattle.ground.specs.Answers.{answerOf, lowest}
+use Rattle.ground.specs.Answers.{answerOf, first}
 use Rattle.matrix.specs.RingElements.{algorithm1}
 use Rattle.matrix.specs.Determinant.{det}
 use Rattle.matrix.specs.Invertible.{algorithm2}
-use Rattle.matrix.specs.Block.{view, block}
+use Rattle.matrix.specs.Block.{view, block, blockBytes}
 use Rattle.matrix.specs.Limits.{coefficientRules, matrixRules, invertibleRules}
 use Rattle.matrix.specs.declared.Made.{Made}
 use Rattle.matrix.specs.declared.Value.{Value}
@@ -21,7 +21,7 @@ coefficients a k = getD a k 0
 
 -- what stands beside a refusal: 25 zeros
 unfoldable pub noBlock : List ℕ
-noBlock = tab 25 (λ e. 0)
+noBlock = tab blockBytes (λ e. 0)
 
 -- what a function that makes a block promises
 pub record Makes (refusal : ℕ) (result : List ℕ) (r : Made) : Type 0 where
@@ -34,15 +34,20 @@ pub record Makes (refusal : ℕ) (result : List ℕ) (r : Made) : Type 0 where
 
 -- `ring_element`: 10 and 23 exactly on their conditions, else Algorithm 1's element
 abbrev pub RingElement : ℕ → List ℕ → Made → Type 0
-RingElement l a r = Makes (lowest (coefficientRules l (coefficients a))) (block l (algorithm1 l (coefficients a))) r
+RingElement l a r = Makes (first (coefficientRules l (coefficients a))) (block l (algorithm1 l (coefficients a))) r
 
 -- `make_invertible`: 10, 23 and 21 exactly on their conditions, else what Algorithm 2 makes of the matrix
 abbrev pub MadeInvertible : ℕ → List ℕ → Made → Type 0
-MadeInvertible l m r = Makes (lowest (invertibleRules l (view m))) (block l (algorithm2 l (view m))) r
+MadeInvertible l m r = Makes (first (invertibleRules l (view m))) (block l (algorithm2 l (view m))) r
+
+-- the page's number of a determinant's answer: 0 where it is there
+abbrev pub valueNumber : Value → ℕ
+valueNumber (Is d) = 0
+valueNumber (Refused n) = n
 
 -- what `determinant_of` promises
 pub record DeterminantOf (l : ℕ) (m : List ℕ) (r : Value) : Type 0 where
   -- 10 and 23 exactly on their conditions
-  pub refused : (lowest (matrixRules l (view m)) ≡ 0 → ⊥) → r ≡ Refused (lowest (matrixRules l (view m)))
+  pub refused : (first (matrixRules l (view m)) ≡ 0 → ⊥) → r ≡ Refused (first (matrixRules l (view m)))
   -- else the determinant
-  pub done : lowest (matrixRules l (view m)) ≡ 0 → r ≡ Is (det l (view m))
+  pub done : first (matrixRules l (view m)) ≡ 0 → r ≡ Is (det l (view m))

@@ -13,13 +13,13 @@ use Rattle.matrix.specs.Matrix.{zeroM, addM, mulM, scaleM}
 use Rattle.matrix.specs.MatrixRing.{matrices}
 use Rattle.matrix.specs.Same.{same-trans, same-add, same-mul, same-scale, same-equal}
 use Rattle.matrix.specs.RingElements.{S, powerS, coefficient, algorithm1}
-use Rattle.matrix.specs.Block.{view, block, block-ext, block-same, inside, cell-kept, holds}
+use Rattle.matrix.specs.Block.{view, block, block-ext, block-same, inside, cell-kept, holds, blockBytes, stride}
 use Rattle.matrix.specs.Steps.{powerS-more, terms, terms-none, terms-more}
 use Rattle.matrix.specs.Promises.{noBlock}
 
 -- ---- block by block
 
-module _ {l : ℕ} (small : l ≤ 5) where
+module _ {l : ℕ} (small : l ≤ stride) where
   pub power-step : (k : ℕ) {s p next : List ℕ} → s ≡ block l (S l) → p ≡ block l (powerS l k) → next ≡ block l (mulM l (view s) (view p)) → next ≡ block l (powerS l (k + 1))
   power-step k s p next = next ∙ block-same (same-mul (holds small s) (holds small p)) ∙ ap (block l) (sym (powerS-more l k))
 
@@ -39,8 +39,8 @@ pub terms-start : (l : ℕ) (c : ℕ → ℕ) {b : List ℕ} → b ≡ noBlock �
 unfolding noBlock
 terms-start l c e =
     e
-    ∙ block-ext (tab 25 (λ e. 0)) l zeroM (length-tab 25 _)
-    (λ k h. cell-kept l zeroM k (getD-tab 25 (λ e. 0) k h ∙ kept-zero (inside l k)) (λ hr hc. refl))
+    ∙ block-ext (tab blockBytes (λ e. 0)) l zeroM (length-tab blockBytes _)
+    (λ k h. cell-kept l zeroM k (getD-tab blockBytes (λ e. 0) k h ∙ kept-zero (inside l k)) (λ hr hc. refl))
     ∙ ap (block l) (sym (terms-none l c))
 
 -- all of them are Algorithm 1's element

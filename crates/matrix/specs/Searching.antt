@@ -9,7 +9,7 @@ use Rattle.matrix.specs.Matrix.{Matrix}
 use Rattle.matrix.specs.Determinant.{det, det-same}
 use Rattle.matrix.specs.Invertible.{invertible, shift, firstFrom, shiftOf, canBeInvertible, algorithm2}
 use Rattle.matrix.specs.InvertibleLaws.{invertible-no, invertible-yes, first-found, first-next, shift-stays, algorithm2-stays, found-can, none-can, found-is}
-use Rattle.matrix.specs.Block.{view, block, holds}
+use Rattle.matrix.specs.Block.{view, block, holds, stride}
 use Rattle.matrix.specs.declared.invertible.Trial.{Trial}
 use Rattle.matrix.specs.Trial.{NextTrial}
 
@@ -31,13 +31,13 @@ unfolding shiftOf
 searching-start {l} {M} z is = record { low = omega arith; high = omega arith; shifted = is; first = rw (invertible-no l M z) }
 
 -- the determinant of what is tried is that of the shift
-tried-det : {l : ℕ} {M : Matrix} {a : ℕ} {tried : List ℕ} → l ≤ 5 → Searching l M a tried → det l (view tried) ≡ det l (shift l M a)
+tried-det : {l : ℕ} {M : Matrix} {a : ℕ} {tried : List ℕ} → l ≤ stride → Searching l M a tried → det l (view tried) ≡ det l (shift l M a)
 tried-det {l} h s = det-same l (holds h (s .shifted))
 
 left : {a : ℕ} → a ≤ 15 → 16 - a ≡ suc (15 - a)
 left h = omega arith
 
-searching-next : {l : ℕ} {M : Matrix} {a : ℕ} {tried next : List ℕ} → l ≤ 5 → Searching l M a tried → det l (view tried) ≡ 0 → (a ≡ 15 → ⊥)
+searching-next : {l : ℕ} {M : Matrix} {a : ℕ} {tried next : List ℕ} → l ≤ stride → Searching l M a tried → det l (view tried) ≡ 0 → (a ≡ 15 → ⊥)
     → next ≡ block l (shift l M (a + 1)) → Searching l M (a + 1) next
 searching-next {l} {M} {a} h s z n is =
     let fewer : 15 - a ≡ 16 - (a + 1) = omega arith in
@@ -50,21 +50,21 @@ searching-next {l} {M} {a} h s z n is =
     }
 
 -- the next try goes on with the search, since its original is the one that was given
-pub next-searching : {l : ℕ} {m : List ℕ} {trial next : Trial} → l ≤ 5 → (trial .original ≡ m) × Searching l (view m) (trial .a) (trial .tried)
+pub next-searching : {l : ℕ} {m : List ℕ} {trial next : Trial} → l ≤ stride → (trial .original ≡ m) × Searching l (view m) (trial .a) (trial .tried)
     → det l (view (trial .tried)) ≡ 0 → (trial .a ≡ 15 → ⊥) → NextTrial l trial next → Searching l (view m) (next .a) (next .tried)
 next-searching {l} {m} {trial} {next} h s z n is =
     subst (λ a. Searching l (view m) a (next .tried)) (sym (is .a))
     (searching-next h (s .1) z n (is .tried ∙ ap (λ b. block l (shift l (view b) (trial .a + 1))) (s .0)))
 
 -- the shift that is found is Algorithm 2's
-pub searching-found : {l : ℕ} {M : Matrix} {a : ℕ} {tried : List ℕ} → l ≤ 5 → Searching l M a tried → (det l (view tried) ≡ 0 → ⊥)
+pub searching-found : {l : ℕ} {M : Matrix} {a : ℕ} {tried : List ℕ} → l ≤ stride → Searching l M a tried → (det l (view tried) ≡ 0 → ⊥)
     → (canBeInvertible l M ≡ true) × (tried ≡ block l (algorithm2 l M))
 searching-found {l} {M} {a} h s n =
     let is : shiftOf l M ≡ a = s .first ∙ ap (λ k. firstFrom l M k a) (left (s .high)) ∙ first-found l M (15 - a) a (invertible-yes l _ (λ e. n (tried-det h s ∙ e))) in
     (found-can l M a is (omega (arith, s .high)), s .shifted ∙ ap (block l) (sym (found-is l M a is)))
 
 -- and where the fifteenth does not serve, none does
-pub searching-none : {l : ℕ} {M : Matrix} {a : ℕ} {tried : List ℕ} → l ≤ 5 → Searching l M a tried → det l (view tried) ≡ 0 → a ≡ 15 → canBeInvertible l M ≡ false
+pub searching-none : {l : ℕ} {M : Matrix} {a : ℕ} {tried : List ℕ} → l ≤ stride → Searching l M a tried → det l (view tried) ≡ 0 → a ≡ 15 → canBeInvertible l M ≡ false
 unfolding firstFrom
 searching-none {l} {M} {a} h s z e =
     let none : 15 - a ≡ 0 = omega arith in

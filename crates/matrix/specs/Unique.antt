@@ -5,10 +5,10 @@ use mathlib.Core.List.{List}
 use Prim.Native.Nat.{ℕ}
 use native.Mathlib.Decide.{ℕ-discrete}
 use Rattle.ground.specs.Pick.{pick}
-use Rattle.ground.specs.Answers.{lowest}
+use Rattle.ground.specs.Answers.{first}
 use Rattle.ground.specs.Outcome.{unique-equation}
 use Rattle.matrix.specs.Matrix.{addM, mulM, transpose, scaleM}
-use Rattle.matrix.specs.RingElements.{oneM, S, powerS, coefficient, algorithm1}
+use Rattle.matrix.specs.RingElements.{oneM, S, powerS, lastCoefficient, coefficient, algorithm1}
 use Rattle.matrix.specs.Determinant.{det}
 use Rattle.matrix.specs.Block.{view, inside, block}
 use Rattle.matrix.specs.Limits.{matrixRules}
@@ -33,7 +33,7 @@ unique-make-invertible l m = unique-makes
 
 pub unique-determinant-of : (l : ℕ) (m : List ℕ) {r r′ : Value} → DeterminantOf l m r → DeterminantOf l m r′ → r ≡ r′
 unique-determinant-of l m a b =
-    elim (ℕ-discrete (lowest (matrixRules l (view m))) 0) [ yes e ↦ a .done e ∙ sym (b .done e) | no e ↦ a .refused e ∙ sym (b .refused e) ]
+    elim (ℕ-discrete (first (matrixRules l (view m))) 0) [ yes e ↦ a .done e ∙ sym (b .done e) | no e ↦ a .refused e ∙ sym (b .refused e) ]
 
 -- ---- the functions for our own crates: each promises an equation with a definition
 
@@ -66,6 +66,9 @@ unique-s-power l k = unique-equation
 
 pub unique-coefficient : (l : ℕ) (a : List ℕ) (k : ℕ) {r r′ : ℕ} → r ≡ coefficient l (coefficients a) k → r′ ≡ coefficient l (coefficients a) k → r ≡ r′
 unique-coefficient l a k = unique-equation
+
+pub unique-last-coefficient : (own a0 : ℕ) {r r′ : ℕ} → r ≡ lastCoefficient own a0 → r′ ≡ lastCoefficient own a0 → r ≡ r′
+unique-last-coefficient own a0 = unique-equation
 
 pub unique-combination : (l : ℕ) (a : List ℕ) {r r′ : List ℕ} → r ≡ block l (algorithm1 l (coefficients a)) → r′ ≡ block l (algorithm1 l (coefficients a)) → r ≡ r′
 unique-combination l a = unique-equation

@@ -4,7 +4,7 @@ ghost use Prim.Native.Nat.{_*_, _<_, _≤_};
 ghost use lib.ListN.{length};
 ghost use Rattle.rows.specs.Plus.{Plus};
 ghost use Rattle.matrix.specs.Matrix.{addM, mulM, scaleM, transpose};
-ghost use Rattle.matrix.specs.Block.{view, block};
+ghost use Rattle.matrix.specs.Block.{view, block, blockBytes, stride};
 use super::blocks::BYTES;
 use super::blocks::Block;
 use super::blocks::STRIDE;
@@ -15,9 +15,9 @@ use field::mul;
 
 // The l bytes of row r of a block gain row r of a · b: entry y of the left row times row y of b, one after the other.
 fn add_product_row(out: &mut [u8], l: usize, a: &[u8], b: &[u8], r: usize)
-    requires { ⌜ (l ≤ 5) × (r < l) ⌝ }
-    requires { ⌜ (25 ≤ length (now out)) × ((25 ≤ length (now a)) × (25 ≤ length (now b))) ⌝ }
-    ensures { λ _. ⌜ Plus (now (out .entry)) (r * 5) l (mulM l (view (now (a .entry))) (view (now (b .entry))) r) (now (out .exit)) ⌝ }
+    requires { ⌜ (l ≤ stride) × (r < l) ⌝ }
+    requires { ⌜ (blockBytes ≤ length (now out)) × ((blockBytes ≤ length (now a)) × (blockBytes ≤ length (now b))) ⌝ }
+    ensures { λ _. ⌜ Plus (now (out .entry)) (r * stride) l (mulM l (view (now (a .entry))) (view (now (b .entry))) r) (now (out .exit)) ⌝ }
 {
     let mut y = 0;
     while y < l {
@@ -29,7 +29,7 @@ fn add_product_row(out: &mut [u8], l: usize, a: &[u8], b: &[u8], r: usize)
 
 // a · b, by its rows.
 pub fn product(l: usize, a: Block, b: Block) -> Block
-    requires { ⌜ l ≤ 5 ⌝ }
+    requires { ⌜ l ≤ stride ⌝ }
     ensures { λ r. ⌜ r ≡ block l (mulM l (view a) (view b)) ⌝ }
 {
     let mut out = [0u8; BYTES];

@@ -1,20 +1,20 @@
-// A block holds a matrix: 25 bytes, row r from byte 5·r on, for every l; bytes outside l are 0. The row stride and the size stand here alone.
+// A block holds a matrix: STRIDE rows of STRIDE bytes for every l; bytes outside l are 0. The row stride and the size stand here alone (specs/Block.antt has the same).
 ghost use mathlib.Core.Path.{_≡_};
 ghost use Prim.Native.Nat.{_<_};
 ghost use Rattle.ground.specs.Pick.{pick};
-ghost use Rattle.matrix.specs.Block.{view, block};
+ghost use Rattle.matrix.specs.Block.{view, block, stride};
 ghost use Rattle.matrix.specs.Block.{inside as isInside};
 ghost use Rattle.matrix.specs.Promises.{noBlock};
 
 pub const STRIDE: usize = 5;
 
-pub const BYTES: usize = 25;
+pub const BYTES: usize = STRIDE * STRIDE;
 
 pub type Block = [u8; BYTES];
 
 // The entry at row r, column c.
 pub fn entry(m: Block, r: usize, c: usize) -> u8
-    requires { ⌜ (r < 5) × (c < 5) ⌝ }
+    requires { ⌜ (r < stride) × (c < stride) ⌝ }
     ensures { λ x. ⌜ x ≡ view m r c ⌝ }
 {
     m[r * STRIDE + c]

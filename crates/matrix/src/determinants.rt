@@ -3,7 +3,7 @@ ghost use mathlib.Core.Path.{_≡_};
 ghost use Prim.Native.Nat.{_-_, _<_, _≤_};
 ghost use Rattle.matrix.specs.Determinant.{det, minor};
 ghost use Rattle.matrix.specs.Determinant.{skip as rowLeft};
-ghost use Rattle.matrix.specs.Block.{view, block, cell};
+ghost use Rattle.matrix.specs.Block.{view, block, cell, blockBytes, stride};
 use super::blocks::BYTES;
 use super::blocks::Block;
 use super::blocks::STRIDE;
@@ -14,7 +14,7 @@ use field::mul;
 
 // Row i of what is left when row r is struck out.
 fn skip(r: usize, i: usize) -> usize
-    requires { ⌜ i < 5 ⌝ }
+    requires { ⌜ i < stride ⌝ }
     ensures { λ x. ⌜ x ≡ rowLeft r i ⌝ }
 {
     if i < r { i } else { i + 1 }
@@ -22,7 +22,7 @@ fn skip(r: usize, i: usize) -> usize
 
 // Byte e of the block of m without row r and without the first column.
 fn minor_entry(n: usize, m: Block, r: usize, e: usize) -> u8
-    requires { ⌜ (0 < n) × ((n ≤ 5) × (e < 25)) ⌝ }
+    requires { ⌜ (0 < n) × ((n ≤ stride) × (e < blockBytes)) ⌝ }
     ensures { λ x. ⌜ x ≡ cell (n - 1) (minor (view m) r) e ⌝ }
 {
     if inside(n - 1, e) {
@@ -34,7 +34,7 @@ fn minor_entry(n: usize, m: Block, r: usize, e: usize) -> u8
 
 // The n by n matrix m without row r and without the first column.
 fn minor_of(n: usize, m: Block, r: usize) -> Block
-    requires { ⌜ (0 < n) × (n ≤ 5) ⌝ }
+    requires { ⌜ (0 < n) × (n ≤ stride) ⌝ }
     ensures { λ x. ⌜ x ≡ block (n - 1) (minor (view m) r) ⌝ }
 {
     let mut out = [0; BYTES];
@@ -73,7 +73,7 @@ fn small_cofactor(m: Block, r: usize) -> u8
 
 // The cofactor of row r's entry in the first column: the determinant without that row and column.
 fn cofactor(n: usize, m: Block, r: usize) -> u8
-    requires { ⌜ (0 < n) × (n ≤ 5) ⌝ }
+    requires { ⌜ (0 < n) × (n ≤ stride) ⌝ }
     ensures { λ d. ⌜ d ≡ det (n - 1) (minor (view m) r) ⌝ }
 {
     if n == 3 {
@@ -85,7 +85,7 @@ fn cofactor(n: usize, m: Block, r: usize) -> u8
 
 // The determinant of the n by n matrix m.
 pub fn determinant(n: usize, m: Block) -> u8
-    requires { ⌜ n ≤ 5 ⌝ }
+    requires { ⌜ n ≤ stride ⌝ }
     ensures { λ d. ⌜ d ≡ det n (view m) ⌝ }
 {
     if n <= 2 {

@@ -2,7 +2,7 @@
 ghost use mathlib.Core.Path.{_≡_};
 ghost use Prim.Native.Nat.{_≤_, _<_};
 ghost use Rattle.ground.specs.Pick.{pick};
-ghost use Rattle.matrix.specs.Block.{view, block};
+ghost use Rattle.matrix.specs.Block.{view, block, stride};
 ghost use Rattle.matrix.specs.Invertible.{shift, canBeInvertible, algorithm2};
 ghost use Rattle.matrix.specs.Promises.{noBlock, Makes};
 ghost use Rattle.matrix.specs.Trial.{NextTrial};
@@ -29,7 +29,7 @@ pub fn refused(answer: Answer) -> Made
 
 // m + a·S.
 pub fn shifted(l: usize, m: Block, a: u8) -> Block
-    requires { ⌜ l ≤ 5 ⌝ }
+    requires { ⌜ l ≤ stride ⌝ }
     ensures { λ r. ⌜ r ≡ block l (shift l (view m) a) ⌝ }
 {
     plus(l, m, scaled(l, a, s_matrix(l)))
@@ -44,7 +44,7 @@ pub struct Trial {
 
 // The next try. It shifts the original by one more, never what was tried before (students' error 3).
 fn next_trial(l: usize, trial: Trial) -> Trial
-    requires { ⌜ (l ≤ 5) × (trial .a < 15) ⌝ }
+    requires { ⌜ (l ≤ stride) × (trial .a < 15) ⌝ }
     ensures { λ r. ⌜ NextTrial l trial r ⌝ }
 {
     let original = trial.original;
@@ -55,7 +55,7 @@ fn next_trial(l: usize, trial: Trial) -> Trial
 
 // The search of Algorithm 2, from a = 1 on.
 pub fn search(l: usize, m: Block) -> Made
-    requires { ⌜ l ≤ 5 ⌝ }
+    requires { ⌜ l ≤ stride ⌝ }
     ensures { λ r. ⌜ Makes (pick (canBeInvertible l (view m)) 0 21) (block l (algorithm2 l (view m))) r ⌝ }
 {
     if determinant(l, m) != 0 {

@@ -21,6 +21,7 @@ pub use blocks::within;
 pub use determinants::determinant;
 pub use ring::coefficient;
 pub use ring::combination;
+pub use ring::last_coefficient;
 pub use ring::one;
 pub use ring::s_matrix;
 pub use ring::s_power;
@@ -35,7 +36,7 @@ use refusals::coefficients_checked;
 // What an algorithm answers, and beside it the block that it made: zeros where it refuses.
 pub struct Made {
     pub answer: Answer,
-    pub block: [u8; 25],
+    pub block: [u8; BYTES],
 }
 
 // The determinant of a matrix, or a refusal.
@@ -45,7 +46,7 @@ pub enum Value {
 }
 
 // Algorithm 1: the element of F16[S] that the first l of the coefficients give. 10: a size outside the limits; 23: a coefficient above 15.
-pub fn ring_element(l: usize, a: [u8; 5]) -> Made
+pub fn ring_element(l: usize, a: [u8; STRIDE]) -> Made
     ensures { λ r. ⌜ RingElement l a r ⌝ }
 {
     let answer = coefficients_checked(l, a);
@@ -61,7 +62,7 @@ pub fn ring_element(l: usize, a: [u8; 5]) -> Made
 
 // Algorithm 2: the matrix where its determinant is not 0, else the first shift of it by a multiple of S whose determinant is not.
 // 10: a size outside the limits; 23: an entry above 15; 21: no shift serves.
-pub fn make_invertible(l: usize, m: [u8; 25]) -> Made
+pub fn make_invertible(l: usize, m: [u8; BYTES]) -> Made
     ensures { λ r. ⌜ MadeInvertible l m r ⌝ }
 {
     let answer = checked(l, m);
@@ -72,7 +73,7 @@ pub fn make_invertible(l: usize, m: [u8; 25]) -> Made
 }
 
 // The determinant. 10: a size outside the limits; 23: an entry above 15.
-pub fn determinant_of(l: usize, m: [u8; 25]) -> Value
+pub fn determinant_of(l: usize, m: [u8; BYTES]) -> Value
     ensures { λ r. ⌜ DeterminantOf l m r ⌝ }
 {
     let answer = checked(l, m);

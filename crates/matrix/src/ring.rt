@@ -4,9 +4,9 @@ ghost use Prim.Native.Nat.{_-_, _<_, _≤_};
 ghost use lib.Dec.{eqb};
 ghost use lib.ListN.{getD};
 ghost use Rattle.ground.specs.Pick.{pick};
-ghost use Rattle.matrix.specs.RingElements.{oneM, S, powerS, algorithm1};
+ghost use Rattle.matrix.specs.RingElements.{oneM, S, powerS, lastCoefficient, algorithm1};
 ghost use Rattle.matrix.specs.RingElements.{coefficient as coefficientOf};
-ghost use Rattle.matrix.specs.Block.{block};
+ghost use Rattle.matrix.specs.Block.{block, stride};
 ghost use Rattle.matrix.specs.Promises.{coefficients};
 use super::arithmetic::plus;
 use super::arithmetic::product;
@@ -19,7 +19,7 @@ use super::blocks::within;
 
 // S has 8 - r - c at row r, column c.
 fn s_entry(r: usize, c: usize) -> u8
-    requires { ⌜ (r < 5) × (c < 5) ⌝ }
+    requires { ⌜ (r < stride) × (c < stride) ⌝ }
     ensures { λ x. ⌜ x ≡ 8 - r - c ⌝ }
 {
     (8 - r - c) as u8
@@ -56,7 +56,7 @@ pub fn one(l: usize) -> Block
 
 // S to the k.
 pub fn s_power(l: usize, k: usize) -> Block
-    requires { ⌜ l ≤ 5 ⌝ }
+    requires { ⌜ l ≤ stride ⌝ }
     ensures { λ r. ⌜ r ≡ block l (powerS l k) ⌝ }
 {
     let s = s_matrix(l);
@@ -68,25 +68,32 @@ pub fn s_power(l: usize, k: usize) -> Block
     power
 }
 
-// Algorithm 1's coefficient k: the last, if it is 0, becomes 16 - a0, or 15 if a0 is 0.
-pub fn coefficient(l: usize, a: [u8; 5], k: usize) -> u8
-    requires { ⌜ (0 < l) × ((k < 5) × (getD a 0 0 < 16)) ⌝ }
-    ensures { λ r. ⌜ r ≡ coefficientOf l (coefficients a) k ⌝ }
+// Algorithm 1's rule for the last coefficient: if it is 0 it becomes 16 - a0, or 15 if a0 is 0.
+pub fn last_coefficient(own: u8, a0: u8) -> u8
+    requires { ⌜ a0 < 16 ⌝ }
+    ensures { λ r. ⌜ r ≡ lastCoefficient own a0 ⌝ }
 {
-    let own = a[k];
-    let first = a[0];
-    if k != l - 1 {
-        return own;
-    }
     if own != 0 {
         return own;
     }
-    if first == 0 { 15 } else { 16 - first }
+    if a0 == 0 { 15 } else { 16 - a0 }
+}
+
+// Algorithm 1's coefficient k.
+pub fn coefficient(l: usize, a: [u8; STRIDE], k: usize) -> u8
+    requires { ⌜ (0 < l) × ((k < stride) × (getD a 0 0 < 16)) ⌝ }
+    ensures { λ r. ⌜ r ≡ coefficientOf l (coefficients a) k ⌝ }
+{
+    let own = a[k];
+    if k != l - 1 {
+        return own;
+    }
+    last_coefficient(own, a[0])
 }
 
 // Algorithm 1: a0·I + a1·S + .. + a(l-1)·S^(l-1), at those coefficients.
-pub fn combination(l: usize, a: [u8; 5]) -> Block
-    requires { ⌜ (0 < l) × ((l ≤ 5) × (getD a 0 0 < 16)) ⌝ }
+pub fn combination(l: usize, a: [u8; STRIDE]) -> Block
+    requires { ⌜ (0 < l) × ((l ≤ stride) × (getD a 0 0 < 16)) ⌝ }
     ensures { λ r. ⌜ r ≡ block l (algorithm1 l (coefficients a)) ⌝ }
 {
     let s = s_matrix(l);

@@ -3,7 +3,7 @@
 use mathlib.Core.Path.{_≡_, refl}
 use mathlib.Core.List.{[], _∷_}
 use Rattle.ground.specs.Fill.{tab}
-use Rattle.ground.specs.Answers.{lowest}
+use Rattle.ground.specs.Answers.{first}
 use Rattle.packing.specs.Packing.{half, element, packedBytes, byteOf, packed, unpacked, inField, packRules}
 
 pub page-unpacked : unpacked 3 (0x2A ∷ 0xF7 ∷ []) ≡ 10 ∷ 2 ∷ 7 ∷ []
@@ -15,14 +15,14 @@ unfolding byteOf packedBytes packed tab
 page-packed = refl
 
 -- no bytes for no elements is done; one byte for three elements is 22, whatever the elements are; an element 16 is 23
-pub none-is-done : lowest (packRules [] []) ≡ 0
-unfolding packedBytes inField packRules lowest
+pub none-is-done : first (packRules [] []) ≡ 0
+unfolding packedBytes inField packRules first
 none-is-done = refl
 
-pub counts-first : lowest (packRules (16 ∷ 2 ∷ 7 ∷ []) (0 ∷ [])) ≡ 22
-unfolding packedBytes inField packRules lowest
+pub counts-first : first (packRules (16 ∷ 2 ∷ 7 ∷ []) (0 ∷ [])) ≡ 22
+unfolding packedBytes inField packRules first
 counts-first = refl
 
-pub sixteen-refused : lowest (packRules (10 ∷ 16 ∷ 7 ∷ []) (0 ∷ 0 ∷ [])) ≡ 23
-unfolding packedBytes inField packRules lowest
+pub sixteen-refused : first (packRules (10 ∷ 16 ∷ 7 ∷ []) (0 ∷ 0 ∷ [])) ≡ 23
+unfolding packedBytes inField packRules first
 sixteen-refused = refl

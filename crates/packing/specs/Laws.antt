@@ -179,3 +179,19 @@ pack-unpack k s b long spare =
   where
     count : length (unpacked k s) ≡ k
     count = length-unpacked k s
+
+same-byte : (s t : List ℕ) (e : ℕ) → getD s (e / 2) 0 ≡ getD t (e / 2) 0 → element s e ≡ element t e
+unfolding element
+same-byte s t e h = ap (λ b. half b e) h
+
+-- readers do not look at a spare half: the first k elements are the same where all bytes before the last agree, and the last one's low half
+pub spare-unread : (s t : List ℕ) (k : ℕ) → ((j : ℕ) → j < k / 2 → getD s j 0 ≡ getD t j 0) → getD s (k / 2) 0 % 16 ≡ getD t (k / 2) 0 % 16
+    → (e : ℕ) → e < k → element s e ≡ element t e
+spare-unread s t k whole low e h =
+    elim (decLt (e / 2) (k / 2)) [
+      | yes b ↦ same-byte s t e (whole (e / 2) b)
+      | no b ↦
+          let last : e / 2 ≡ k / 2 = omega arith in
+          let even : e % 2 ≡ 0 = omega arith in
+          element-even s e even ∙ rw last low ∙ sym (element-even t e even)
+    ]

@@ -7,7 +7,7 @@ use lib.Dec.{eqb, leb}
 use lib.ListN.{length, getD}
 use Rattle.ground.specs.Pick.{pick, both}
 use Rattle.ground.specs.Fill.{tab}
-use Rattle.ground.specs.Answers.{Rule, unless, lowest}
+use Rattle.ground.specs.Answers.{Rule, unless, first}
 use Rattle.ground.specs.Outcome.{Writes}
 use Rattle.ground.specs.declared.Answer.{Answer}
 
@@ -49,11 +49,11 @@ unpackRules bytes elements = unless 22 (eqb (length bytes) (packedBytes (length 
 
 -- What packing promises of its answer and of the lent bytes, before and after.
 abbrev pub Packs : List ℕ → List ℕ → Answer → List ℕ → Type 0
-Packs elements before r after = Writes (lowest (packRules elements before)) (packed elements) before r after
+Packs elements before r after = Writes (first (packRules elements before)) (packed elements) before r after
 
 -- What unpacking promises of its answer and of the lent elements, before and after.
 abbrev pub Unpacks : List ℕ → List ℕ → Answer → List ℕ → Type 0
-Unpacks bytes before r after = Writes (lowest (unpackRules bytes before)) (unpacked (length before) bytes) before r after
+Unpacks bytes before r after = Writes (first (unpackRules bytes before)) (unpacked (length before) bytes) before r after
 
 -- a list of bytes: what a slice of `u8` always holds
 pub record Bytes (s : List ℕ) : Type 0 where

@@ -5,7 +5,7 @@ use mathlib.Core.Bool.{true}
 use mathlib.Core.List.{List}
 use Prim.Native.Nat.{ℕ}
 use lib.ListN.{length}
-use Rattle.ground.specs.Answers.{lowest, answerOf}
+use Rattle.ground.specs.Answers.{first, answerOf}
 use Rattle.ground.specs.AnswerLaws.{answer-done}
 use Rattle.ground.specs.declared.Answer.{Answer}
 use Rattle.ground.specs.declared.Answer.the-variants.{Done}
@@ -18,7 +18,7 @@ pub pack-then-unpack : (elements : List ℕ) {bytes stream room out : List ℕ} 
 pack-then-unpack elements {bytes} {stream} {room} {out} {r} {r′} p d u same =
     (u .answer ∙ ap answerOf no-refusal, u .done no-refusal ∙ ap₂ unpacked same holds ∙ unpack-pack elements (allowed .1))
   where
-    done : lowest (packRules elements bytes) ≡ 0
+    done : first (packRules elements bytes) ≡ 0
     done = answer-done _ (p .answer) d
 
     allowed : (length bytes ≡ packedBytes (length elements)) × (inField elements ≡ true)
@@ -30,5 +30,5 @@ pack-then-unpack elements {bytes} {stream} {room} {out} {r} {r′} p d u same =
     fits : length stream ≡ packedBytes (length room)
     fits = ap length holds ∙ length-packed elements ∙ ap packedBytes (sym same)
 
-    no-refusal : lowest (unpackRules stream room) ≡ 0
+    no-refusal : first (unpackRules stream room) ≡ 0
     no-refusal = unpack-fits stream room fits

@@ -1,13 +1,14 @@
 // Two elements to a byte. In a packed stream the low half of a byte is the earlier element, and an odd count leaves a spare high half:
 // packing writes zero there, and readers do not look at it. What an element, a packed and an unpacked list are stands in specs/Packing.antt.
 ghost use mathlib.Core.Path.{_≡_};
-ghost use Prim.Native.Nat.{_+_, _*_, _/_, _<_};
+ghost use Prim.Native.Nat.{_+_, _*_, _/_, _%_, _<_, _≤_};
 ghost use mathlib.Core.Bool.{true};
 ghost use lib.ListN.{length};
-ghost use Rattle.ground.specs.Answers.{lowest};
+ghost use Rattle.ground.specs.Answers.{first};
 ghost use Rattle.packing.specs.Packing.{packedBytes, byteOf, packed, unpacked, inField, packRules, unpackRules, Packs, Unpacks};
 ghost use Rattle.packing.specs.Packing.{element as Packing·element};
 ghost use Rattle.packing.specs.Written.{Put};
+ghost use Rattle.packing.specs.Spread.{Spread};
 use ground::Answer;
 use ground::answer_of;
 use ground::first_of;
@@ -19,13 +20,30 @@ pub fn packed_bytes(k: usize) -> usize
     k / 2 + k % 2
 }
 
+// The half of a byte that is the earlier element, and the half that is the later one: page 01's rule of the two halves, for every reader.
+fn low_half(b: u8) -> u8
+    ensures { λ r. ⌜ r ≡ b % 16 ⌝ }
+{
+    b & 15
+}
+
+fn high_half(b: u8) -> u8
+    ensures { λ r. ⌜ r ≡ b / 16 % 16 ⌝ }
+{
+    b >> 4
+}
+
 // Element e of a packed stream.
 pub fn element(s: &[u8], e: usize) -> u8
     requires { ⌜ e / 2 < length (now s) ⌝ }
     ensures { λ r. ⌜ r ≡ Packing·element (now (s .entry)) e ⌝ }
 {
     let b = s[e / 2];
-    if e % 2 == 0 { b & 15 } else { b >> 4 }
+    if e % 2 == 0 {
+        low_half(b)
+    } else {
+        high_half(b)
+    }
 }
 
 // The byte of an earlier and a later element.
@@ -43,9 +61,9 @@ pub fn put(s: &mut [u8], e: usize, x: u8)
 {
     let b = s[e / 2];
     if e % 2 == 0 {
-        s[e / 2] = joined(x, b >> 4);
+        s[e / 2] = joined(x, high_half(b));
     } else {
-        s[e / 2] = joined(b & 15, x);
+        s[e / 2] = joined(low_half(b), x);
     }
 }
 
@@ -85,18 +103,18 @@ pub fn unpack(bytes: &[u8], elements: &mut [u8]) -> Answer
     answer_of(r22)
 }
 
-// The lowest number that applies to a call of pack, or 0.
+// The first number that applies to a call of pack, or 0.
 fn pack_refusal(elements: &[u8], bytes: &[u8]) -> u32
-    ensures { λ r. ⌜ r ≡ lowest (packRules (now (elements .entry)) (now (bytes .entry))) ⌝ }
+    ensures { λ r. ⌜ r ≡ first (packRules (now (elements .entry)) (now (bytes .entry))) ⌝ }
 {
     let counts = bytes.len() == packed_bytes(elements.len());
     let field = in_field(elements);
     first_of(22, counts, first_of(23, field, 0))
 }
 
-// The lowest number that applies to a call of unpack, or 0.
+// The first number that applies to a call of unpack, or 0.
 fn unpack_refusal(bytes: &[u8], elements: &[u8]) -> u32
-    ensures { λ r. ⌜ r ≡ lowest (unpackRules (now (bytes .entry)) (now (elements .entry))) ⌝ }
+    ensures { λ r. ⌜ r ≡ first (unpackRules (now (bytes .entry)) (now (elements .entry))) ⌝ }
 {
     let counts = bytes.len() == packed_bytes(elements.len());
     first_of(22, counts, 0)
@@ -137,5 +155,19 @@ fn unpack_all(bytes: &[u8], elements: &mut [u8])
     while e < elements.len() {
         elements[e] = element(bytes, e);
         e += 1;
+    }
+}
+
+// The elements of n bytes of a packed stream, from byte `from` on, become dst[0..2·n], one to a byte.
+pub fn spread(dst: &mut [u8], stream: &[u8], from: usize, n: usize)
+    requires { ⌜ (2 * n ≤ length (now dst)) × (from + n ≤ length (now stream)) ⌝ }
+    ensures { λ _. ⌜ Spread (now (stream .entry)) from n (now (dst .entry)) (now (dst .exit)) ⌝ }
+{
+    let mut k = 0;
+    while k < n {
+        let b = stream[from + k];
+        dst[2 * k] = low_half(b);
+        dst[2 * k + 1] = high_half(b);
+        k += 1;
     }
 }

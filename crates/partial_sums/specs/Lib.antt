@@ -1,5 +1,5 @@
 pub mod Products
 pub mod LeftRight
 pub mod Filled
-pub mod Places
+pub mod SumPlaces
 pub mod Unique

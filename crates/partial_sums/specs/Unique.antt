@@ -15,7 +15,7 @@ use Rattle.sets.specs.Bounds.{Bounds}
 use Rattle.matrix.specs.Matrix.{Matrix}
 use Rattle.partial_sums.specs.Products.{productsRow}
 use Rattle.partial_sums.specs.Filled.{Stacked, LeftHolds, RightHolds, SumsHold}
-use Rattle.partial_sums.specs.Places.{table-sizes}
+use Rattle.partial_sums.specs.SumPlaces.{table-sizes}
 
 -- ---- tables
 

@@ -9,9 +9,7 @@ ghost use Rattle.sets.specs.Sets.{publicBytes};
 ghost use Rattle.partial_sums.specs.LeftRight.{leftRow};
 ghost use Rattle.partial_sums.specs.Filled.{LeftHolds};
 use sets::Set;
-
-// Room for l·l rows of v·l bytes.
-const SUMS: usize = 4800;
+use sets::VINEGAR_POWERS_ROOM;
 
 // The rows of one matrix index, from byte `at` on. x holds the powers of S times the vinegar, t holds T12.
 fn add_left_index(left: &mut [u8], at: usize, set: Set, i: usize, public: &[u8], x: &[u8], t: &[u8])
@@ -26,9 +24,9 @@ fn add_left_index(left: &mut [u8], at: usize, set: Set, i: usize, public: &[u8],
     let o = set.o;
     let l = set.l;
     let square = l * l;
-    let mut z = [0u8; SUMS];
-    let p11 = tables::p11_number(set, i, 0);
-    let p12 = tables::p12_number(set, i, 0);
+    let mut z = [0u8; VINEGAR_POWERS_ROOM];
+    let p11 = streams::p11_number(set, i, 0);
+    let p12 = streams::p12_number(set, i, 0);
     tables::add_left(&mut z, 0, l, v, x, square, public, p11, v);
     tables::add_left(left, at, l, v, x, square, public, p12, o);
     tables::add_times(left, at, o * l, square, &z, v * l, t);

@@ -3,6 +3,7 @@ ghost use mathlib.Core.Path.{_≡_};
 ghost use mathlib.Core.List.{List};
 ghost use Prim.Native.Nat.{ℕ, _+_, _*_, _<_, _≤_};
 ghost use lib.ListN.{length};
+ghost use Rattle.sets.specs.Rooms.{vinegarRoom};
 ghost use Rattle.rows.specs.PlusRows.{PlusRows};
 ghost use Rattle.words.specs.Multiples.{Multiples};
 ghost use Rattle.sets.specs.Sets.{mostL};
@@ -22,7 +23,7 @@ pub fn add_products(
     multiples: &[u64],
 )
     requires { ⌜ (at + a * l * n ≤ length (now dst)) × (((number + a * count) * (l * l) ≤ 2 * length (now stream)) × (count * l * 8 ≤ length (now multiples))) ⌝ }
-    requires { ⌜ (count * (l * l) ≤ 1200) × ((0 < count) × ((0 < l) × (l ≤ mostL))) ⌝ }
+    requires { ⌜ (count * (l * l) ≤ vinegarRoom) × ((0 < count) × ((0 < l) × (l ≤ mostL))) ⌝ }
     ensures { λ _. ⌜ ((src : List ℕ) → Multiples n (count * l) src (now (multiples .entry))
         → PlusRows (now (dst .entry)) at (a * l) n (productsRow l (now (stream .entry)) number count src n) (now (dst .exit))) ⌝ }
 {

@@ -13,12 +13,11 @@ ghost use Rattle.partial_sums.specs.LeftRight.{yRow, rightRow, sumsRow};
 ghost use Rattle.partial_sums.specs.Filled.{RightHolds, SumsHold};
 use super::products::add_products;
 use sets::Set;
-
-// Room for v·l rows of l·l bytes.
-const SUMS: usize = 4800;
+use sets::VINEGAR_POWERS_ROOM;
+use sets::VINEGAR_ROWS;
 
 // Room for the eight multiples of each of v·l rows.
-const MULTIPLES: usize = 2400;
+const MULTIPLES: usize = VINEGAR_ROWS * 8;
 
 // y becomes the sums with P11 of one matrix index, v·l rows of l·l bytes, and zeros behind them. `multiples` holds the multiples of the rows of x,
 // the powers of S times the vinegar.
@@ -31,7 +30,7 @@ fn load_products(y: &mut [u8], set: Set, i: usize, public: &[u8], multiples: &[u
     let v = set.v;
     let l = set.l;
     rows::clear(y);
-    let p11 = tables::p11_number(set, i, 0);
+    let p11 = streams::p11_number(set, i, 0);
     add_products(y, 0, l * l, public, p11, l, v, v, multiples);
 }
 
@@ -56,7 +55,7 @@ fn add_right_index(
     let v = set.v;
     let o = set.o;
     let l = set.l;
-    let p21 = tables::p21_number(set, i, 0);
+    let p21 = streams::p21_number(set, i, 0);
     add_products(right, at, l * l, public, p21, l, o, v, multiples);
     tables::add_transposed(right, at, l * l, t, 0, o * l, v * l, y);
 }
@@ -81,7 +80,7 @@ fn fill_by_multiples(
     let l = set.l;
     rows::clear(right);
     rows::clear(sums);
-    let mut y = [0u8; SUMS];
+    let mut y = [0u8; VINEGAR_POWERS_ROOM];
     let mut i = 0;
     while i < o {
         load_products(&mut y, set, i, public, multiples);

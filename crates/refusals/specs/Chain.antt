@@ -6,25 +6,25 @@ use mathlib.Core.List.{List, [], _∷_}
 use Prim.Native.Nat.{ℕ}
 use lib.Dec.{eqb}
 use Rattle.ground.specs.Pick.{pick}
-use Rattle.ground.specs.Answers.{Rule, unless, lowest}
+use Rattle.ground.specs.Answers.{Rule, unless, first}
 
 -- r is the lowest refusal of the rules
 pub record Finds (rules : List Rule) (r : ℕ) : Type 0 where
-  pub is : r ≡ lowest rules
+  pub is : r ≡ first rules
 
 -- with no rule there is no refusal
 pub no-rule : Finds [] 0
-unfolding lowest
+unfolding first
 no-rule = record { is = refl }
 
 pub next-rule : {b : Bool} {n r rest : ℕ} {rules : List Rule} → r ≡ pick b rest n → Finds rules rest → Finds (unless n b ∷ rules) r
-unfolding lowest
+unfolding first
 next-rule {b} {n} r-is f = record { is = r-is ∙ ap (λ x. pick b x n) (f .is) }
 
 -- a rule that is met leaves what the others say
 pub met-rule : {b : Bool} {n r : ℕ} {rules : List Rule} → b ≡ true → Finds rules r → Finds (unless n b ∷ rules) r
-unfolding lowest
-met-rule {b} {n} {rules = rules} met f = record { is = f .is ∙ sym (ap (λ t. pick t (lowest rules) n) met) }
+unfolding first
+met-rule {b} {n} {rules = rules} met f = record { is = f .is ∙ sym (ap (λ t. pick t (first rules) n) met) }
 
 -- the length asked for is the exact one, since the set is allowed
 pub length-rule : (lent exact : ℕ) {allowed : Bool} {asked n r rest : ℕ} {rules : List Rule} → allowed ≡ true → asked ≡ pick allowed exact 0

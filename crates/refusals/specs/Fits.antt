@@ -4,7 +4,7 @@ use mathlib.Core.Path.{_≡_}
 use mathlib.Core.Bool.{true}
 use Prim.Native.Nat.{ℕ}
 use borrow.Author.Tests.{eqb-true, eq-eqb}
-use Rattle.ground.specs.Answers.{lowest, Met, met-none, met-more, lowest-met}
+use Rattle.ground.specs.Answers.{first, Met, met-none, met-more, first-met}
 use Rattle.sets.specs.declared.Set.{Set}
 use Rattle.sets.specs.Sets.{
   allowedSet,
@@ -18,7 +18,7 @@ use Rattle.sets.specs.Sets.{
   workBytes,
   saltBytes,
 }
-use Rattle.ground.specs.Lowest.{met-of-lowest}
+use Rattle.ground.specs.First.{met-of-first}
 use Rattle.refusals.specs.Rules.{keygenRules, signRules, verdictRules, saltRules}
 
 -- key generation
@@ -30,11 +30,11 @@ pub record KeygenFits (s : Set) (p t r : ℕ) : Type 0 where
   pub output : r ≡ keyBytes s
 
 module _ (s : Set) (p t r : ℕ) where
-  keygen-met : lowest (keygenRules s p t r) ≡ 0 → Met (keygenRules s p t r)
+  keygen-met : first (keygenRules s p t r) ≡ 0 → Met (keygenRules s p t r)
   unfolding keygenRules
-  keygen-met = met-of-lowest (keygenRules s p t r) tt
+  keygen-met = met-of-first 0 (keygenRules s p t r) tt
 
-  pub keygen-fits : lowest (keygenRules s p t r) ≡ 0 → KeygenFits s p t r
+  pub keygen-fits : first (keygenRules s p t r) ≡ 0 → KeygenFits s p t r
   unfolding keygenRules
   keygen-fits e = by (keygen-met e)
     where
@@ -56,11 +56,11 @@ pub record SignFits (s : Set) (p a t x y h w r : ℕ) : Type 0 where
   pub output : r ≡ signatureBytes s
 
 module _ (s : Set) (p a t x y h w r : ℕ) where
-  pub sign-met : lowest (signRules s p a t x y h w r) ≡ 0 → Met (signRules s p a t x y h w r)
+  pub sign-met : first (signRules s p a t x y h w r) ≡ 0 → Met (signRules s p a t x y h w r)
   unfolding signRules
-  sign-met = met-of-lowest (signRules s p a t x y h w r) tt
+  sign-met = met-of-first 0 (signRules s p a t x y h w r) tt
 
-  pub sign-fits : lowest (signRules s p a t x y h w r) ≡ 0 → SignFits s p a t x y h w r
+  pub sign-fits : first (signRules s p a t x y h w r) ≡ 0 → SignFits s p a t x y h w r
   unfolding signRules
   sign-fits e = by (sign-met e)
     where
@@ -89,11 +89,11 @@ pub record VerdictFits (s : Set) (p a y k g : ℕ) : Type 0 where
   pub signature : g ≡ signatureBytes s
 
 module _ (s : Set) (p a y k g : ℕ) where
-  pub verdict-met : lowest (verdictRules s p a y k g) ≡ 0 → Met (verdictRules s p a y k g)
+  pub verdict-met : first (verdictRules s p a y k g) ≡ 0 → Met (verdictRules s p a y k g)
   unfolding verdictRules
-  verdict-met = met-of-lowest (verdictRules s p a y k g) tt
+  verdict-met = met-of-first 0 (verdictRules s p a y k g) tt
 
-  pub verdict-fits : lowest (verdictRules s p a y k g) ≡ 0 → VerdictFits s p a y k g
+  pub verdict-fits : first (verdictRules s p a y k g) ≡ 0 → VerdictFits s p a y k g
   unfolding verdictRules
   verdict-fits e = by (verdict-met e)
     where
@@ -108,10 +108,10 @@ module _ (s : Set) (p a y k g : ℕ) where
             signature = eqb-true _ _ g-is;
           }
 
-  pub verdict-exact : VerdictFits s p a y k g → lowest (verdictRules s p a y k g) ≡ 0
+  pub verdict-exact : VerdictFits s p a y k g → first (verdictRules s p a y k g) ≡ 0
   unfolding verdictRules
   verdict-exact f =
-      lowest-met
+      first-met
       (met-more (f .allowed)
       (met-more (eq-eqb _ _ (f .public))
       (met-more (eq-eqb _ _ (f .abq))
@@ -126,11 +126,11 @@ pub record SaltFits (s : Set) (g : ℕ) : Type 0 where
   pub signature : g ≡ signatureBytes s
 
 module _ (s : Set) (g : ℕ) where
-  salt-met : lowest (saltRules s g) ≡ 0 → Met (saltRules s g)
+  salt-met : first (saltRules s g) ≡ 0 → Met (saltRules s g)
   unfolding saltRules
-  salt-met = met-of-lowest (saltRules s g) tt
+  salt-met = met-of-first 0 (saltRules s g) tt
 
-  pub salt-fits : lowest (saltRules s g) ≡ 0 → SaltFits s g
+  pub salt-fits : first (saltRules s g) ≡ 0 → SaltFits s g
   unfolding saltRules
   salt-fits e = by (salt-met e)
     where

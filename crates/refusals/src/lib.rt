@@ -1,7 +1,7 @@
 // The refusal that each operation gives for the lengths that it was lent: the lowest number whose condition holds, or 0.
 // Only the buffers that the operation takes are looked at. An output of another length is 20, whatever it is to hold.
 ghost use mathlib.Core.Path.{_≡_};
-ghost use Rattle.ground.specs.Answers.{lowest};
+ghost use Rattle.ground.specs.Answers.{first};
 ghost use Rattle.refusals.specs.Rules.{keygenRules, signRules, verdictRules, saltRules};
 use ground::first_of;
 use sets::SALT_BYTES;
@@ -17,7 +17,7 @@ use sets::vinegar_bytes;
 use sets::work_bytes;
 
 pub fn keygen_refusal(s: Set, public: usize, private: usize, output: usize) -> u32
-    ensures { λ r. ⌜ r ≡ lowest (keygenRules s public private output) ⌝ }
+    ensures { λ r. ⌜ r ≡ first (keygenRules s public private output) ⌝ }
 {
     if !allowed(s) {
         return 10;
@@ -38,7 +38,7 @@ pub fn sign_refusal(
     work: usize,
     output: usize,
 ) -> u32
-    ensures { λ r. ⌜ r ≡ lowest (signRules s public abq private vinegar target salt work output) ⌝ }
+    ensures { λ r. ⌜ r ≡ first (signRules s public abq private vinegar target salt work output) ⌝ }
 {
     if !allowed(s) {
         return 10;
@@ -61,7 +61,7 @@ pub fn verdict_refusal(
     key: usize,
     signature: usize,
 ) -> u32
-    ensures { λ r. ⌜ r ≡ lowest (verdictRules s public abq target key signature) ⌝ }
+    ensures { λ r. ⌜ r ≡ first (verdictRules s public abq target key signature) ⌝ }
 {
     if !allowed(s) {
         return 10;
@@ -74,7 +74,7 @@ pub fn verdict_refusal(
 }
 
 pub fn salt_refusal(s: Set, signature: usize) -> u32
-    ensures { λ r. ⌜ r ≡ lowest (saltRules s signature) ⌝ }
+    ensures { λ r. ⌜ r ≡ first (saltRules s signature) ⌝ }
 {
     if !allowed(s) {
         return 10;

@@ -1,8 +1,7 @@
 // The salt of a signature: a part of the caller's own bytes, handed back; and the number that says whether set and length fit.
 ghost use mathlib.Core.Path.{_≡_};
 ghost use Prim.Native.Nat.{_+_};
-ghost use Rattle.ground.specs.Answers.{answerOf};
-ghost use Rattle.salt.specs.Salt.{saltRefusal, saltStart, saltOf};
+ghost use Rattle.salt.specs.Salt.{saltStart, saltOf, SaltStatus};
 use ground::Answer;
 use sets::SALT_BYTES;
 use sets::Set;
@@ -23,7 +22,7 @@ pub fn salt(set: Set, signature: &[u8]) -> &[u8]
 
 // 0, 10 or 18: what stands in the way of the same two things' salt.
 pub fn salt_status(set: Set, signature: &[u8]) -> Answer
-    ensures { λ r. ⌜ r ≡ answerOf (saltRefusal set (now (signature .entry))) ⌝ }
+    ensures { λ r. ⌜ SaltStatus set (now (signature .entry)) r ⌝ }
 {
     ground::answer_of(refusals::salt_refusal(set, signature.len()))
 }

@@ -59,20 +59,20 @@ parts-same {l} v o M11 M12 M21 {M22} {N22} e =
     (λ j k hj hk. same-equal (M .at-21 j k hk ∙ sym (N .at-21 j k hk)))
     (λ j k hj hk. same-trans (same-equal (M .at-22 j k)) (same-trans (e j k hj hk) (same-equal (sym (N .at-22 j k)))))
 
-pub matrixIndex-lt : (set : Set) → 0 < set .o → (i alpha : ℕ) → matrixIndex set i alpha < set .o
+pub matrixIndex-lt : (set : Set) {i : ℕ} → i < set .o → (alpha : ℕ) → matrixIndex set i alpha < set .o
 unfolding matrixIndex
-matrixIndex-lt set some i alpha = mod-lt _ some
+matrixIndex-lt set h alpha = mod-lt _ (omega arith)
 
 module _ (set : Set) (public abq : List ℕ) where
   -- the public map reads P22 and U inside l only, P22 below m and U below n
   pub publicMapWith-same : {P22s P22s′ : ℕ → ℕ → ℕ → Matrix} {U U′ : ℕ → Matrix}
       → ((i j k : ℕ) → i < set .o → j < set .o → k < set .o → Same (set .l) (P22s i j k) (P22s′ i j k))
       → ((j : ℕ) → j < variables set → Same (set .l) (U j) (U′ j))
-      → (i : ℕ) → Same (set .l) (publicMapWith set public abq P22s U i) (publicMapWith set public abq P22s′ U′ i)
+      → (i : ℕ) → i < set .o → Same (set .l) (publicMapWith set public abq P22s U i) (publicMapWith set public abq P22s′ U′ i)
   unfolding publicMapWith equation
-  publicMapWith-same eP eU i =
+  publicMapWith-same eP eU i hi =
       value-same (terms set) (variables set) (λ α h. same-refl) (λ α h. same-refl)
-      (λ α j k h hj hk. parts-same (set .v) (set .o) _ _ _ (λ j k aj ak. eP (matrixIndex set i α) j k (matrixIndex-lt set (omega arith) i α) aj ak) j k hj hk)
+      (λ α j k h hj hk. parts-same (set .v) (set .o) _ _ _ (λ j k aj ak. eP (matrixIndex set i α) j k (matrixIndex-lt set hi α) aj ak) j k hj hk)
       (λ α h. same-refl) (λ α h. same-refl) eU
 
   -- the central map reads X inside l only, below n

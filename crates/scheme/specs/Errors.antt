@@ -6,14 +6,14 @@ use Prim.Native.Nat.{ℕ, _<_}
 use native.Mathlib.Omega.{arith}
 use lib.ListN.{replicate}
 use Rattle.ground.specs.Fill.{tab}
-use Rattle.ground.specs.Answers.{lowest}
+use Rattle.ground.specs.Answers.{first}
 use Rattle.algebra.specs.Sum.{sum}
 use Rattle.algebra.specs.Map.{value, value-cong}
 use Rattle.algebra.specs.Powers.{power, polynomial}
 use Rattle.field.specs.Field.{add, mul, times}
 use Rattle.packing.specs.Packing.{element, half, packedBytes, byteOf, packed}
 use Rattle.sets.specs.declared.Set.{Set}
-use Rattle.sets.specs.Sets.{allowedSet, terms, variables, publicCount, abqCount, targetCount, keyCount, signatureCount}
+use Rattle.sets.specs.Sets.{allowedSet, terms, allTerms, variables, publicCount, abqCount, targetCount, keyCount, signatureCount}
 use Rattle.sets.specs.Sets.{publicBytes, abqBytes, targetBytes, keyBytes, signatureBytes}
 use Rattle.refusals.specs.Rules.{verdictRules}
 use Rattle.matrix.specs.Matrix.{Matrix, addM, mulM, transpose, scaleM}
@@ -21,10 +21,10 @@ use Rattle.matrix.specs.MatrixRing.{matrices}
 use Rattle.matrix.specs.RingElements.{S, oneM, coefficient}
 use Rattle.matrix.specs.Determinant.{det, minor, skip}
 use Rattle.matrix.specs.Invertible.{invertible, shift, firstFrom, shiftOf, canBeInvertible, algorithm2}
-use Rattle.scheme.specs.Streams.{blockOf, groupOf, P11, P12, P21, P22, A, B, Q1, Q2, T12, signatureOf}
+use Rattle.scheme.specs.Streams.{termNumber, blockOf, groupOf, P11, P12, P21, P22, A, B, Q1, Q2, T12, signatureOf}
 use Rattle.scheme.specs.Maps.{sumM, parts, equation, matrixIndex, F12, keyP22, PWith, publicMapWith, publicMap, keyElement, keyOf, allInvertible}
 use Rattle.scheme.specs.Entries.{matrixIndex-lt}
-use Rattle.scheme.specs.Verdict.{verdictRefusals}
+use Rattle.scheme.specs.Refusals.{verdictRefusals}
 
 -- ---- the wrong maps
 
@@ -57,13 +57,13 @@ module _ (set : Set) (public abq : List ℕ) (P22s : ℕ → ℕ → ℕ → Mat
       (λ α j k l hj hk. ap (λ x. PWith set public P22s x j k) (same α)) (λ α l. refl) (λ α l. refl) (λ j l. refl)
     where
       same : (α : ℕ) → i ≡ matrixIndex set i α
-      same α = let below : matrixIndex set i α < set .o = matrixIndex-lt set (omega arith) i α in omega arith
+      same α = let below : matrixIndex set i α < set .o = matrixIndex-lt set h α in omega arith
 
 -- ---- the inputs
 
 -- what the definitions compute by; `unfolding opened` opens all of it
 unfoldable opened : ℕ
-unfolding sum value power polynomial add mul times element half packedBytes byteOf packed tab terms addM mulM transpose scaleM S oneM coefficient det minor skip
+unfolding sum value power polynomial add mul times element half packedBytes byteOf packed tab terms allTerms termNumber addM mulM transpose scaleM S oneM coefficient det minor skip
     invertible shift firstFrom shiftOf canBeInvertible algorithm2 blockOf groupOf P11 P12 P21 P22 A B Q1 Q2 T12 signatureOf parts equation matrixIndex F12 keyP22
     publicMapWith
 opened = 0
@@ -102,9 +102,9 @@ abbrev pub signature1 : List ℕ
 signature1 = 0x01 ∷ 0x10 ∷ replicate 18 0
 
 -- the verdict takes them: nothing is refused
-pub error-inputs-taken : (lowest (verdictRefusals set2 public2 abq2 (replicate 4 0) key2 signature2) ≡ 0)
-    × (lowest (verdictRefusals set1 public1 abq1 (replicate 2 0) key1 signature1) ≡ 0)
-unfolding opened lowest verdictRefusals verdictRules allowedSet publicBytes publicCount abqBytes abqCount targetBytes targetCount keyBytes keyCount signatureBytes
+pub error-inputs-taken : (first (verdictRefusals set2 public2 abq2 (replicate 4 0) key2 signature2) ≡ 0)
+    × (first (verdictRefusals set1 public1 abq1 (replicate 2 0) key1 signature1) ≡ 0)
+unfolding opened first verdictRefusals verdictRules allowedSet publicBytes publicCount abqBytes abqCount targetBytes targetCount keyBytes keyCount signatureBytes
     signatureCount allInvertible
 error-inputs-taken = (refl, refl)
 

@@ -71,7 +71,7 @@ module _ (set : Set) (public private : List ℕ) where
   keyOf-holds i j k hi hj hk =
       record { at = λ r c hr hc. keyOf-element _ (keyNumber-lt hi hj hk hr hc) ∙ keyElement-at hi hj hk hr hc }
 
-  module _ (abq : List ℕ) (U : ℕ → Matrix) (i : ℕ) where
+  module _ (abq : List ℕ) (U : ℕ → Matrix) (i : ℕ) (below : i < set .o) where
     -- The composition for any P22 with the generated entries.
     composition-with : (P22s : ℕ → ℕ → ℕ → Matrix)
         → ((i j k : ℕ) → i < set .o → j < set .o → k < set .o → Same (set .l) (P22s i j k) (keyP22 set public private i j k))
@@ -79,7 +79,7 @@ module _ (set : Set) (public private : List ℕ) where
     composition-with P22s e =
         record {
           at = λ r c hr hc.
-              same-trans (publicMapWith-same set public abq e (λ j h. same-refl) i) (same-equal (composition set (omega arith) public abq private U i)) .at r c hr hc;
+              same-trans (publicMapWith-same set public abq e (λ j h. same-refl) i below) (same-equal (composition set (omega arith) public abq private U i)) .at r c hr hc;
         }
 
     -- for any key with those entries, whatever stands in a spare half
@@ -88,7 +88,7 @@ module _ (set : Set) (public private : List ℕ) where
         → Same (set .l) (publicMap set public abq key U i) (centralMap set public abq private (privateChange set private U) i)
     key-composition-of key e = composition-with (P22 set key) e
 
--- The public map of the generated key at U is the central map at the private change of U, for every set, all streams, every U and every equation i.
-pub key-composition : (set : Set) (public abq private : List ℕ) (U : ℕ → Matrix) (i : ℕ)
+-- The public map of the generated key at U is the central map at the private change of U, for every set, all streams, every U and each equation i.
+pub key-composition : (set : Set) (public abq private : List ℕ) (U : ℕ → Matrix) (i : ℕ) → i < set .o
     → Same (set .l) (publicMap set public abq (keyOf set public private) U i) (centralMap set public abq private (privateChange set private U) i)
-key-composition set public abq private U i = key-composition-of set public private abq U i (keyOf set public private) (keyOf-holds set public private)
+key-composition set public abq private U i below = key-composition-of set public private abq U i below (keyOf set public private) (keyOf-holds set public private)

@@ -4,6 +4,7 @@ pub mod Parts
 pub mod Composition
 pub mod Entries
 pub mod Key
+pub mod Refusals
 pub mod Verdict
 pub mod Linear
 pub mod Oil

@@ -12,7 +12,7 @@ use Rattle.algebra.specs.Map.{value}
 use Rattle.algebra.specs.Split as Split
 use Rattle.packing.specs.Packing.{packed}
 use Rattle.sets.specs.declared.Set.{Set}
-use Rattle.sets.specs.Sets.{terms, variables, keyCount}
+use Rattle.sets.specs.Sets.{terms, allTerms, variables, keyCount}
 use Rattle.matrix.specs.Matrix.{Matrix, zeroM, addM, mulM, transpose}
 use Rattle.matrix.specs.Invertible.{canBeInvertible}
 use Rattle.scheme.specs.Streams.{blockOf, P11, P12, P21, P22, A, B, Q1, Q2, T12, targetOf}
@@ -102,7 +102,7 @@ module _ (set : Set) where
 
   -- no A and no B is refused by 21
   unfoldable pub allInvertible : (abq : List ℕ) → Bool
-  allInvertible abq = every (2 * (set .o * terms set)) (λ b. canBeInvertible (set .l) (blockOf (set .l) abq b))
+  allInvertible abq = every (2 * allTerms set) (λ b. canBeInvertible (set .l) (blockOf (set .l) abq b))
 
   -- every entry of every equation equals the target
   unfoldable pub meets : (map : ℕ → Matrix) (target : List ℕ) → Bool

@@ -13,7 +13,7 @@ use borrow.Author.Tests.{le-ltb, eq-eqb, ne-eqb, eqb-false, not-true}
 use lib.Dec.{eqb, ltb}
 use Rattle.ground.specs.Pick.{pick, both, both-left, both-right}
 use Rattle.ground.specs.Place.{row-fits}
-use Rattle.ground.specs.Answers.{lowest, met-none, met-more, lowest-met}
+use Rattle.ground.specs.Answers.{first, met-none, met-more, first-met}
 use Rattle.ground.specs.Tests.{every}
 use Rattle.algebra.specs.Ring.{zero-mul, mul-zero}
 use Rattle.algebra.specs.Sum.{sum, sum-zeros, sum-one, sum-add}
@@ -23,7 +23,7 @@ use Rattle.field.specs.Field.{add, mul, times}
 use Rattle.field.specs.Laws as Field
 use Rattle.packing.specs.Packing.{packedBytes}
 use Rattle.sets.specs.declared.Set.{Set}
-use Rattle.sets.specs.Sets.{leastL, mostL, allowedSet, terms, variables, publicCount, abqCount, targetCount, keyCount, signatureCount}
+use Rattle.sets.specs.Sets.{leastL, mostL, allowedSet, terms, allTerms, variables, publicCount, abqCount, targetCount, keyCount, signatureCount}
 use Rattle.sets.specs.Sets.{publicBytes, abqBytes, targetBytes, keyBytes, signatureBytes}
 use Rattle.refusals.specs.Rules.{verdictRules}
 use Rattle.sets.specs.Bounds.{Limits, limits}
@@ -35,12 +35,12 @@ use Rattle.matrix.specs.Invertible.{invertible, shift, firstFrom, shiftOf, canB
 use Rattle.matrix.specs.InvertibleLaws.{algorithm2-same, canBeInvertible-same}
 use Rattle.matrix.specs.RingSteps.{algorithm1-cong}
 use Rattle.matrix.specs.Same.{Same, same-refl, same-sym, same-trans, same-equal, same-mul, same-sum}
-use Rattle.scheme.specs.Streams.{blockOf, groupOf, p11Number, P11, P22, aNumber, bNumber, q1Number, q2Number, A, B, Q1, Q2, signatureOf}
+use Rattle.scheme.specs.Streams.{termNumber, blockOf, groupOf, p11Number, P11, P22, aNumber, bNumber, q1Number, q2Number, A, B, Q1, Q2, signatureOf}
 use Rattle.scheme.specs.Maps.{sumM, equation, matrixIndex, PWith, publicMapWith, publicMap, allInvertible}
 use Rattle.scheme.specs.Parts.{parts-11}
 use Rattle.scheme.specs.Entries.{value-same}
 use Rattle.ground.specs.Tests.{every-at, every-true}
-use Rattle.scheme.specs.Verdict.{verdictRefusals}
+use Rattle.scheme.specs.Refusals.{verdictRefusals}
 use Rattle.scheme.specs.Errors.{ownMatrixMap}
 use Rattle.scheme.specs.Single.{corner, corner-zero, single, length-single, single-element, single-block, corner-between, corner-symmetric, corner-pick}
 
@@ -94,12 +94,16 @@ module _ (set : Set) (h : Limits set) (many : 1 < set .o) where
       let more : set .v * set .v < set .o * (set .v * set .v + 2 * set .v * set .o) = omega arith in
       omega (arith, row-fits (set .l * set .l) more)
 
+  all-some : 1 < allTerms set
+  unfolding allTerms
+  all-some = omega (arith, mul-le-mul (h .o-least) terms-some)
+
   abq-inside : 1 * (set .l * set .l) < abqCount set
-  unfolding abqCount terms
+  unfolding abqCount
   abq-inside =
       let ll : 0 < set .l * set .l = mul-pos l-some l-some in
-      let ot : 0 < set .o * (set .l * set .l + set .l) = mul-pos (h .o-least) (omega arith) in
-      omega (arith, mul-le-mul-right (2 * (set .l * set .l) + 2 * set .l) ot)
+      let some : 1 ≤ allTerms set = omega (arith, all-some) in
+      omega (arith, mul-le-mul-right (2 * (set .l * set .l) + 2 * set .l) some)
 
   -- ---- the ingredients of equation 0
 
@@ -137,24 +141,24 @@ module _ (set : Set) (h : Limits set) (many : 1 < set .o) where
     block-is b = single-block (set .l) (abqCount set) 1 x abq-inside small b
 
     A-is : (α : ℕ) → Same (set .l) (A set (abq x) 0 α) (As α)
-    unfolding A
+    unfolding A termNumber
     A-is α =
         let number : aNumber set 0 α ≡ α = omega arith in
         algorithm2-same (same-trans (block-is (aNumber set 0 α)) (same-equal (ap (λ b. corner (pick (eqb b 1) x 0)) number)))
 
     B-is : (α : ℕ) → Same (set .l) (B set (abq x) 0 α) (algorithm2 (set .l) (corner 0))
-    unfolding B terms
+    unfolding B
     B-is α =
-        let other : bNumber set 0 α ≢ 1 = λ e. omega (arith, mul-le-mul (h .o-least) (h .l-least), mul-pos (h .o-least) (mul-pos l-some l-some)) in
+        let other : bNumber set 0 α ≢ 1 = λ e. omega (arith, all-some) in
         algorithm2-same (same-trans (block-is (bNumber set 0 α)) (same-equal (ap (λ t. corner (pick t x 0)) (ne-eqb _ _ other))))
 
-    groups : (g : ℕ) → 2 * (set .o * terms set) * set .l ≤ g → algorithm1 (set .l) (groupOf (set .l) (abq x) g) ≡ zeroQ (set .l)
+    groups : (g : ℕ) → 2 * allTerms set * set .l ≤ g → algorithm1 (set .l) (groupOf (set .l) (abq x) g) ≡ zeroQ (set .l)
     unfolding groupOf
     groups g late =
         algorithm1-cong (set .l)
         (λ k hk.
-        let ot : 1 ≤ set .o * terms set = mul-pos (h .o-least) (omega (arith, terms-some)) in
-        let many-blocks : 2 * 1 * set .l * set .l ≤ 2 * (set .o * terms set) * set .l * set .l = mul-le-mul-right (set .l) (mul-le-mul-right (set .l) (mul-le-mul-left 2 ot)) in
+        let some : 1 ≤ allTerms set = omega (arith, all-some) in
+        let many-blocks : 2 * 1 * set .l * set .l ≤ 2 * allTerms set * set .l * set .l = mul-le-mul-right (set .l) (mul-le-mul-right (set .l) (mul-le-mul-left 2 some)) in
         let other : g * set .l + k ≢ 1 * (set .l * set .l) = λ e. omega (arith, mul-le-mul-right (set .l) late, mul-pos l-some l-some) in
         single-element (abqCount set) (1 * (set .l * set .l)) x abq-inside small (g * set .l + k) ∙ rw (ne-eqb _ _ other))
 
@@ -241,16 +245,16 @@ module _ (set : Set) (h : Limits set) (many : 1 < set .o) where
       (λ l. pick (ltb l leastL) true (both (canBeInvertible l (corner 0)) (canBeInvertible l (corner 1)))) taken-test (set .l) (omega (arith, h .l-most))) in
       (both-left zero-taken one-taken test, both-right zero-taken one-taken test)
 
-  taken : (x : ℕ) → x < 2 → allowedSet set ≡ true → lowest (verdictRefusals set public (abq x) target key signature) ≡ 0
+  taken : (x : ℕ) → x < 2 → allowedSet set ≡ true → first (verdictRefusals set public (abq x) target key signature) ≡ 0
   unfolding verdictRefusals verdictRules publicBytes abqBytes targetBytes keyBytes signatureBytes packedBytes allInvertible
   taken x few allowed =
-      lowest-met (met-more allowed
+      first-met (met-more allowed
       (met-more (eq-eqb _ _ (length-single (publicCount set) _ 1))
       (met-more (eq-eqb _ _ (length-single (abqCount set) _ x))
       (met-more (eq-eqb _ _ (length-single (targetCount set) 0 0))
       (met-more (eq-eqb _ _ (length-single (keyCount set) 0 0))
       (met-more (eq-eqb _ _ (length-single (signatureCount set + 32) _ 1 ∙ omega arith))
-      (met-more (every-true (2 * (set .o * terms set)) _ (λ b l. canBeInvertible-same (block-is x (omega arith) b) ∙ can (eqb b 1)))
+      (met-more (every-true (2 * allTerms set) _ (λ b l. canBeInvertible-same (block-is x (omega arith) b) ∙ can (eqb b 1)))
       met-none)))))))
     where
       can : (b : Bool) → canBeInvertible (set .l) (corner (pick b x 0)) ≡ true
@@ -267,7 +271,7 @@ module _ (set : Set) (h : Limits set) (many : 1 < set .o) where
 
 -- Equation i with matrix i agrees with the public map, on all inputs that the verdict takes, only where m = 1.
 pub own-matrix-only-one : (set : Set) → allowedSet set ≡ true
-    → ((public abq target key signature : List ℕ) → lowest (verdictRefusals set public abq target key signature) ≡ 0
+    → ((public abq target key signature : List ℕ) → first (verdictRefusals set public abq target key signature) ≡ 0
     → (i : ℕ) → i < set .o
     → Same (set .l) (ownMatrixMap set public abq (P22 set key) (signatureOf set signature) i) (publicMap set public abq key (signatureOf set signature) i))
     → set .o ≡ 1

@@ -5,7 +5,7 @@ use mathlib.Core.List.{List}
 use Prim.Native.Nat.{ℕ, _+_, _*_}
 use Rattle.packing.specs.Packing.{element}
 use Rattle.sets.specs.declared.Set.{Set}
-use Rattle.sets.specs.Sets.{terms}
+use Rattle.sets.specs.Sets.{terms, allTerms}
 use Rattle.matrix.specs.Matrix.{Matrix}
 use Rattle.matrix.specs.RingElements.{algorithm1}
 use Rattle.matrix.specs.Invertible.{algorithm2}
@@ -44,19 +44,23 @@ module _ (set : Set) where
   P21 public i j k = blockOf (set .l) public (p21Number i j k)
 
   -- ABQ stream: A for all i (alpha inner), then B, then q1, then q2. A and B are blocks and go through Algorithm 2;
-  -- q1 and q2 are groups of coefficients, which begin where 2 · o · terms blocks end, and go through Algorithm 1.
+  -- q1 and q2 are groups of coefficients, which begin where the blocks of all A and B end, and go through Algorithm 1.
+
+  -- the number of term (i, alpha) among all terms
+  unfoldable pub termNumber : ℕ → ℕ → ℕ
+  termNumber i alpha = i * terms set + alpha
 
   abbrev pub aNumber : ℕ → ℕ → ℕ
-  aNumber i alpha = i * terms set + alpha
+  aNumber i alpha = termNumber i alpha
 
   abbrev pub bNumber : ℕ → ℕ → ℕ
-  bNumber i alpha = set .o * terms set + (i * terms set + alpha)
+  bNumber i alpha = allTerms set + termNumber i alpha
 
   abbrev pub q1Number : ℕ → ℕ → ℕ
-  q1Number i alpha = 2 * (set .o * terms set) * set .l + (i * terms set + alpha)
+  q1Number i alpha = 2 * allTerms set * set .l + termNumber i alpha
 
   abbrev pub q2Number : ℕ → ℕ → ℕ
-  q2Number i alpha = 2 * (set .o * terms set) * set .l + set .o * terms set + (i * terms set + alpha)
+  q2Number i alpha = 2 * allTerms set * set .l + allTerms set + termNumber i alpha
 
   unfoldable pub A : List ℕ → ℕ → ℕ → Matrix
   A abq i alpha = algorithm2 (set .l) (blockOf (set .l) abq (aNumber i alpha))

@@ -1,43 +1,29 @@
--- What the verdict and key generation refuse, and what the verdict accepts: a target that the public map meets in every entry (page 01, "Keys, signing, verdict").
--- A signature of zeros is accepted exactly for a target of zeros. Rests on Entries, Key and sets' Rules.
+-- What the verdict accepts: a target that the public map meets in every entry (page 01, "Keys, signing, verdict").
+-- A signature of zeros is accepted exactly for a target of zeros. Rests on Entries and Key.
 use mathlib.Core.Path.{_≡_, refl, sym, ap, _∙_}
 use mathlib.Core.Bool.{Bool, true}
 use mathlib.Core.Logic.{_↔_}
-use mathlib.Core.List.{List, [], _∷_, _++_}
+use mathlib.Core.List.{List}
 use Prim.Native.Nat.{ℕ, _*_, _<_}
 use borrow.Author.Tests.{eqb-true, eq-eqb}
 use lib.Arith.{digits-lt}
 use lib.Dec.{eqb}
-use lib.ListN.{length}
-use Rattle.ground.specs.Answers.{Rule, unless}
 use Rattle.ground.specs.Tests.{every}
 use Rattle.algebra.specs.Map.{value-zero}
 use Rattle.packing.specs.Packing.{element}
 use Rattle.sets.specs.declared.Set.{Set}
 use Rattle.sets.specs.Sets.{terms, variables, targetCount, signatureCount}
-use Rattle.refusals.specs.Rules.{verdictRules, keygenRules}
 use Rattle.matrix.specs.Matrix.{Matrix, zeroM}
 use Rattle.matrix.specs.MatrixRing.{matrices}
 use Rattle.matrix.specs.Same.{Same, same-refl, same-trans, same-equal}
 use Rattle.scheme.specs.Streams.{blockOf, P22, targetOf, signatureOf}
-use Rattle.scheme.specs.Maps.{equation, publicMapWith, publicMap, centralMap, privateChange, keyOf, allInvertible, meets}
+use Rattle.scheme.specs.Maps.{equation, publicMapWith, publicMap, centralMap, privateChange, keyOf, meets}
 use Rattle.scheme.specs.Composition.{private-change-own-inverse}
 use Rattle.scheme.specs.Entries.{by-entry, publicMapWith-same, centralMap-same, privateChange-same}
 use Rattle.scheme.specs.Key.{key-composition}
 use Rattle.ground.specs.Tests.{every-at, every-true, every-cong}
 
--- ---- the contracts' words
-
 module _ (set : Set) where
-  -- key generation: 10, 11, 13, 20
-  unfoldable pub keygenRefusals : (public private output : List ℕ) → List Rule
-  keygenRefusals public private output = keygenRules set (length public) (length private) (length output)
-
-  -- the verdict: 10, 11, 12, 15, 16, 18, 21
-  unfoldable pub verdictRefusals : (public abq target key signature : List ℕ) → List Rule
-  verdictRefusals public abq target key signature =
-      verdictRules set (length public) (length abq) (length target) (length key) (length signature) ++ (unless 21 (allInvertible set abq) ∷ [])
-
   -- accepted: every entry of every equation equals the target
   unfoldable pub accepted : (public abq key signature target : List ℕ) → Bool
   accepted public abq key signature target = meets set (publicMap set public abq key (signatureOf set signature)) target
@@ -74,6 +60,15 @@ pub accepted-exactly : (set : Set) (public abq key signature target : List ℕ)
 unfolding accepted
 accepted-exactly set public abq key signature target = meets-exactly set (publicMap set public abq key (signatureOf set signature)) target
 
+-- ---- the verdict reads the signature's elements, and nothing behind them: not the salt, and no spare half
+
+pub accepted-elements : (set : Set) (public abq key target signature signature′ : List ℕ) → ((e : ℕ) → e < signatureCount set → element signature e ≡ element signature′ e)
+    → accepted set public abq key signature target ≡ accepted set public abq key signature′ target
+unfolding accepted signatureOf signatureCount blockOf
+accepted-elements set public abq key target signature signature′ same =
+    meets-same set _ _ target (λ i hi. publicMapWith-same set public abq (λ i j k hi hj hk. same-refl)
+    (λ j hj. record { at = λ r c hr hc. same _ (digits-lt hj (digits-lt hr hc)) }) i hi)
+
 -- ---- the verdict on what signing emits, by the central map
 
 module _ (set : Set) (public abq private signature target : List ℕ) where
@@ -81,7 +76,7 @@ module _ (set : Set) (public abq private signature target : List ℕ) where
   accepted-central : accepted set public abq (keyOf set public private) signature target
       ≡ meets set (centralMap set public abq private (privateChange set private (signatureOf set signature))) target
   unfolding accepted
-  accepted-central = meets-same set _ _ target (λ i h. key-composition set public abq private (signatureOf set signature) i)
+  accepted-central = meets-same set _ _ target (λ i h. key-composition set public abq private (signatureOf set signature) i h)
 
   -- a signature that holds the private change of X is accepted exactly where the central map at X meets the target
   pub accepted-change : (X : ℕ → Matrix) → ((j : ℕ) → j < variables set → Same (set .l) (signatureOf set signature j) (privateChange set private X j))
@@ -110,10 +105,10 @@ unfolding publicMapWith equation
 publicMap-zero set public abq P22s i = value-zero (matrices (set .l)) (terms set) (variables set) _ _ _ _ _ (λ j h. refl)
 
 module _ (set : Set) (public abq key signature target : List ℕ) (zeros : (e : ℕ) → e < signatureCount set → element signature e ≡ 0) where
-  zero-map : (i : ℕ) → Same (set .l) (publicMap set public abq key (signatureOf set signature) i) zeroM
+  zero-map : (i : ℕ) → i < set .o → Same (set .l) (publicMap set public abq key (signatureOf set signature) i) zeroM
   unfolding signatureOf signatureCount
-  zero-map i =
-      same-trans (publicMapWith-same set public abq (λ i j k hi hj hk. same-refl) (zero-blocks (set .l) (variables set) signature zeros) i)
+  zero-map i hi =
+      same-trans (publicMapWith-same set public abq (λ i j k hi hj hk. same-refl) (zero-blocks (set .l) (variables set) signature zeros) i hi)
       (same-equal (publicMap-zero set public abq (P22 set key) i))
 
   -- Zero signature elements: accepted exactly for a target whose entries are all 0.
@@ -121,8 +116,8 @@ module _ (set : Set) (public abq key signature target : List ℕ) (zeros : (e : 
       ↔ ((i r c : ℕ) → i < set .o → r < set .l → c < set .l → targetOf set target i r c ≡ 0)
   zero-signature =
       let A = accepted-exactly set public abq key signature target in (
-        λ e i r c hi hr hc. sym (A .0 e i r c hi hr hc) ∙ zero-map i .at r c hr hc,
-        λ z. A .1 (λ i r c hi hr hc. zero-map i .at r c hr hc ∙ sym (z i r c hi hr hc)),
+        λ e i r c hi hr hc. sym (A .0 e i r c hi hr hc) ∙ zero-map i hi .at r c hr hc,
+        λ z. A .1 (λ i r c hi hr hc. zero-map i hi .at r c hr hc ∙ sym (z i r c hi hr hc)),
       )
 
   -- the same of the target's elements

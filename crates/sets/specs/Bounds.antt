@@ -19,6 +19,7 @@ use Rattle.sets.specs.Sets.{
   mostRow,
   variables,
   terms,
+  allTerms,
   unknowns,
   publicCount,
   abqCount,
@@ -142,7 +143,7 @@ pub record Counts (s : Set) : Type 0 where
   pub terms : terms s ≡ s .l * s .l + s .l
   pub unknowns : unknowns s ≡ s .o * (s .l * s .l)
   pub public : publicCount s ≡ s .o * (s .v * s .v + 2 * s .v * s .o) * (s .l * s .l)
-  pub abq : abqCount s ≡ s .o * (s .l * s .l + s .l) * (2 * (s .l * s .l) + 2 * s .l)
+  pub abq : abqCount s ≡ allTerms s * (2 * (s .l * s .l) + 2 * s .l)
   pub private : privateCount s ≡ s .v * s .o * s .l
   pub vinegar : vinegarCount s ≡ s .v * (s .l * s .l)
   pub target : targetCount s ≡ s .o * (s .l * s .l)
@@ -167,6 +168,8 @@ counts s =
 -- how large the counts and the work area can be
 pub record Sizes (s : Set) : Type 0 where
   pub terms : terms s ≤ mostL * mostL + mostL
+  pub all-terms : allTerms s ≤ 2 * mostRow
+  pub all-terms-l : allTerms s * s .l ≤ 2 * (mostRow * mostL)
   pub unknowns : unknowns s ≤ mostRow
   pub public : publicCount s ≤ (mostV * mostV + 2 * (mostV * mostO)) * mostRow
   pub abq : abqCount s ≤ 2 * mostRow * (mostL * mostL + 2 * mostL + 1)
@@ -178,11 +181,14 @@ pub record Sizes (s : Set) : Type 0 where
   pub work : workBytes s ≤ mostRow * (mostRow + 1) + 3 * (mostV * mostRow)
 
 sizes : {s : Set} → Limits s → Products s → Sizes s
-unfolding workBytes unknowns
+unfolding workBytes unknowns allTerms terms
 sizes {s} h p =
     let c = counts s in
+    let all : allTerms s ≤ 2 * mostRow = omega arith in
     record {
       terms = omega arith;
+      all-terms = all;
+      all-terms-l = omega (arith, mul-le-mul all (h .l-most));
       unknowns = omega arith;
       public = omega arith;
       abq = omega arith;

@@ -39,6 +39,10 @@ variables s = s .v + s .o
 unfoldable pub terms : Set → ℕ
 terms s = s .l * s .l + s .l
 
+-- the terms of all equations: as many A stand in the ABQ stream
+unfoldable pub allTerms : Set → ℕ
+allTerms s = s .o * terms s
+
 -- N = o·l², the unknowns of a signing's linear system
 unfoldable pub unknowns : Set → ℕ
 unknowns s = s .o * (s .l * s .l)
@@ -49,7 +53,7 @@ unfoldable pub publicCount : Set → ℕ
 publicCount s = s .o * (s .v * s .v + 2 * s .v * s .o) * (s .l * s .l)
 
 unfoldable pub abqCount : Set → ℕ
-abqCount s = s .o * terms s * (2 * (s .l * s .l) + 2 * s .l)
+abqCount s = allTerms s * (2 * (s .l * s .l) + 2 * s .l)
 
 unfoldable pub privateCount : Set → ℕ
 privateCount s = s .v * s .o * s .l

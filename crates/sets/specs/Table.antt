@@ -8,6 +8,7 @@ use Rattle.sets.specs.declared.Set.{Set}
 use Rattle.sets.specs.Sets.{
   allowedSet,
   terms,
+  allTerms,
   unknowns,
   publicCount,
   abqCount,
@@ -41,7 +42,7 @@ pub table : rowOf (setOf 24 5 4) ∷ rowOf (setOf 25 8 3) ∷ rowOf (setOf 37 17
     ∷ (6 ∷ 36 ∷ 1 ∷ 2 ∷ 2 ∷ 2 ∷ 20 ∷ 32 ∷ [])
     ∷ []
 unfolding
-    terms unknowns publicCount abqCount privateCount vinegarCount targetCount keyCount signatureCount publicBytes abqBytes privateBytes vinegarBytes targetBytes
+    terms allTerms unknowns publicCount abqCount privateCount vinegarCount targetCount keyCount signatureCount publicBytes abqBytes privateBytes vinegarBytes targetBytes
     keyBytes signatureBytes workBytes
 table = refl
 

@@ -1,6 +1,6 @@
 // How many elements each stream holds. These are for callers that know the set to be allowed, so that no product wraps.
 ghost use mathlib.Core.Path.{_≡_};
-ghost use Rattle.sets.specs.Sets.{terms as Sets·terms, unknowns as Sets·unknowns};
+ghost use Rattle.sets.specs.Sets.{terms as Sets·terms, allTerms, unknowns as Sets·unknowns};
 ghost use Rattle.sets.specs.Sets.{publicCount, abqCount, privateCount, vinegarCount, targetCount, keyCount, signatureCount};
 ghost use Rattle.sets.specs.Bounds.{Bounds};
 use crate::Set;
@@ -11,6 +11,14 @@ pub fn terms(s: Set) -> usize
     ensures { λ r. ⌜ r ≡ Sets·terms s ⌝ }
 {
     s.l * s.l + s.l
+}
+
+// The terms of all equations: as many A stand in the ABQ stream.
+pub fn all_terms(s: Set) -> usize
+    requires { ⌜ Bounds s ⌝ }
+    ensures { λ r. ⌜ r ≡ allTerms s ⌝ }
+{
+    s.o * terms(s)
 }
 
 // The unknowns of a signing's linear system, N.
@@ -32,7 +40,7 @@ pub fn abq_count(s: Set) -> usize
     requires { ⌜ Bounds s ⌝ }
     ensures { λ r. ⌜ r ≡ abqCount s ⌝ }
 {
-    s.o * terms(s) * (2 * (s.l * s.l) + 2 * s.l)
+    all_terms(s) * (2 * (s.l * s.l) + 2 * s.l)
 }
 
 pub fn private_count(s: Set) -> usize

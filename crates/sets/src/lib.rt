@@ -1,9 +1,11 @@
 // Parameter sets, and the exact length of every stream and buffer.
-// `allowed` decides page 01's limits; `count` has the numbers of elements, `length` a function for each length.
+// `allowed` decides page 01's limits; `count` has the numbers of elements, `length` a function for each length, `rooms` the sizes of local buffers.
 mod count;
 mod length;
+mod rooms;
 
 pub use count::abq_count;
+pub use count::all_terms;
 pub use count::key_count;
 pub use count::private_count;
 pub use count::public_count;
@@ -20,6 +22,18 @@ pub use length::signature_bytes;
 pub use length::target_bytes;
 pub use length::vinegar_bytes;
 pub use length::work_bytes;
+pub use rooms::FLAT_ROOM;
+pub use rooms::KEY_ROOM;
+pub use rooms::LIST_POWERS_ROOM;
+pub use rooms::LIST_ROOM;
+pub use rooms::LIST_ROWS;
+pub use rooms::POWER_SUMS_ROOM;
+pub use rooms::POWERS_ROOM;
+pub use rooms::PRIVATE_ROOM;
+pub use rooms::SIDE_SUMS_ROOM;
+pub use rooms::VINEGAR_POWERS_ROOM;
+pub use rooms::VINEGAR_ROOM;
+pub use rooms::VINEGAR_ROWS;
 ghost use mathlib.Core.Path.{_≡_};
 ghost use Rattle.sets.specs.Sets.{allowedSet, fromTo};
 

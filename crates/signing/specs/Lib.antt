@@ -4,6 +4,5 @@ pub mod Writing
 pub mod Emitting
 pub mod Solving
 pub mod Building
-pub mod Refusals
 pub mod Outcomes
 pub mod Unique

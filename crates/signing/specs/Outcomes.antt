@@ -1,23 +1,25 @@
 -- The three outcomes of signing, each meets the promise: refused, redo and done. What the functions of src/lib.rt cite.
--- Rests on Signs, Solving and Refusals.
-use mathlib.Core.Path.{_≡_, refl, sym, ap, _∙_}
+-- Rests on Signs and Solving.
+use mathlib.Core.Path.{_≡_, refl, ap, _∙_}
 use mathlib.Core.Logic.{inl, inr}
-use mathlib.Core.List.{List, [], _∷_}
+use mathlib.Core.List.{List}
 use Prim.Native.Nat.{ℕ, _<_}
 use native.Mathlib.Omega.{arith}
 use lib.ListN.{length}
-use Rattle.ground.specs.Answers.{lowest, unless, answerOf, numberOf}
-use Rattle.ground.specs.AnswerLaws.{number-of-answer, answer-done}
+use Rattle.ground.specs.Answers.{first, answerOf, numberOf}
+use Rattle.ground.specs.AnswerLaws.{number-of-answer, answer-refused}
 use Rattle.ground.specs.declared.Answer.{Answer}
 use Rattle.ground.specs.declared.Answer.the-variants as Answers
 use Rattle.sets.specs.declared.Set.{Set}
-use Rattle.scheme.specs.Maps.{allInvertible}
+use Rattle.scheme.specs.Refusals.{signRefusals}
 use Rattle.scheme.specs.Oil.{oilFrom}
 use Rattle.rows.specs.Zero.{zeros}
 use Rattle.signing.specs.declared.Signing.the-variants.{Done, Redo, Refused}
 use Rattle.signing.specs.Signs.{Again, Signs, signatureWith}
 use Rattle.signing.specs.Solving.{FoundOil, emitted}
-use Rattle.signing.specs.Refusals.{refusal, lengthRefusal, then-invertible, length-stands}
+
+abbrev pub refusal : (set : Set) (public abq private vinegar target salt work output : List ℕ) → ℕ
+refusal set public abq private vinegar target salt work output = first (signRefusals set public abq private vinegar target salt work output)
 
 done-redo : (A : Type 0) → Done ≡ Redo → A
 done-redo A e = let z : _≡_ {A = ℕ} 0 1 = cc in absurd (omega arith)
@@ -43,31 +45,11 @@ module _ (set : Set) (public abq private vinegar target salt work output : List 
     wiped = λ z. absurd (some z);
   }
 
-  -- a refusal by length
-  pub refused-length : {n : ℕ} → n ≡ lengthRefusal set public abq private vinegar target salt work output → (n ≡ 0 → ⊥)
-      → Signs set public abq private vinegar target salt work output (Refused n) work output
-  refused-length {n} e some =
-      let stands = length-stands set public abq private vinegar target salt work output (λ z. some (e ∙ z)) in
-      signs-refused (e ∙ sym stands) (λ z. some (e ∙ sym stands ∙ z))
-
-  -- 21, handed up as Algorithm 2's helper gave it
-  pub refused-invertible : {n m k : ℕ} {a : Answer} → n ≡ lengthRefusal set public abq private vinegar target salt work output → n ≡ 0
-      → a ≡ answerOf (lowest (unless 21 (allInvertible set abq) ∷ [])) → a ≡ Answers.Refused k → m ≡ numberOf a
+  -- a refusal, handed up; a is the answer to the refusals
+  pub refused-answer : {m k : ℕ} {a : Answer} → a ≡ answerOf (refusal set public abq private vinegar target salt work output) → a ≡ Answers.Refused k → m ≡ numberOf a
       → Signs set public abq private vinegar target salt work output (Refused m) work output
-  refused-invertible {n} {m} {k} {a} e z a-is refused m-is =
-      let whole = then-invertible set public abq private vinegar target salt work output (sym e ∙ z) in
-      signs-refused (m-is ∙ ap numberOf a-is ∙ number-of-answer (lowest (unless 21 (allInvertible set abq) ∷ [])) ∙ sym whole)
-      (λ q. not-refused (a-is ∙ ap answerOf (sym whole ∙ q)))
-    where
-      not-refused : a ≡ Answers.Done → ⊥
-      not-refused d = let bad : _≡_ {A = ℕ} 0 1 = cc in omega arith
-
-  -- neither
-  pub nothing-refused : {n : ℕ} {a : Answer} → n ≡ lengthRefusal set public abq private vinegar target salt work output → n ≡ 0
-      → a ≡ answerOf (lowest (unless 21 (allInvertible set abq) ∷ [])) → a ≡ Answers.Done
-      → refusal set public abq private vinegar target salt work output ≡ 0
-  nothing-refused e z a-is done =
-      then-invertible set public abq private vinegar target salt work output (sym e ∙ z) ∙ answer-done _ a-is done
+  refused-answer is refused m-is =
+      signs-refused (m-is ∙ ap numberOf is ∙ number-of-answer _) (λ z. answer-refused _ is refused z)
 
   module _ (fits : refusal set public abq private vinegar target salt work output ≡ 0) where
     pub signs-redo : {work′ : List ℕ} → Again set public abq private vinegar target → work′ ≡ zeros (length work)

@@ -2,19 +2,19 @@
 -- Rests on scheme's oil choices, on sets' refusals and on packing. An outcome that meets `Signs` is the only one: Unique.
 use mathlib.Core.Path.{_≡_}
 use mathlib.Core.Logic.{_⊎_}
-use mathlib.Core.List.{List, [], _∷_, _++_}
+use mathlib.Core.List.{List, _++_}
 use Prim.Native.Nat.{ℕ, _<_}
 use lib.ListN.{length}
-use Rattle.ground.specs.Answers.{Rule, unless, lowest}
+use Rattle.ground.specs.Answers.{first}
 use Rattle.ground.specs.Fill.{tab}
 use Rattle.packing.specs.Packing.{packed}
 use Rattle.sets.specs.declared.Set.{Set}
 use Rattle.sets.specs.Sets.{variables, signatureCount}
-use Rattle.refusals.specs.Rules.{signRules}
 use Rattle.matrix.specs.Matrix.{Matrix}
 use Rattle.matrix.specs.Same.{Same}
 use Rattle.scheme.specs.Streams.{vinegarOf, signatureOf}
-use Rattle.scheme.specs.Maps.{privateChange, allInvertible}
+use Rattle.scheme.specs.Maps.{privateChange}
+use Rattle.scheme.specs.Refusals.{signRefusals}
 use Rattle.scheme.specs.Oil.{entryAt, joined, Oil, Solves, OnlyZero, Redo as OilRedo}
 use Rattle.rows.specs.Zero.{zeros}
 use Rattle.signing.specs.declared.Signing.{Signing}
@@ -27,12 +27,6 @@ numberOf Redo = 2
 numberOf (Refused n) = n
 
 module _ (set : Set) where
-  -- signing: 10, 11, 12, 13, 14, 15, 17, 19, 20, 21
-  unfoldable pub signRefusals : (public abq private vinegar target salt work output : List ℕ) → List Rule
-  signRefusals public abq private vinegar target salt work output =
-      signRules set (length public) (length abq) (length private) (length vinegar) (length target) (length salt) (length work) (length output)
-      ++ (unless 21 (allInvertible set abq) ∷ [])
-
   -- the U whose image is X, vinegar then oil: the private change is its own inverse
   abbrev pub solutionOf : (private vinegar : List ℕ) (oil : ℕ → Matrix) → ℕ → Matrix
   solutionOf private vinegar oil = privateChange set private (joined set (vinegarOf set vinegar) oil)
@@ -61,14 +55,14 @@ module _ (set : Set) (public abq private vinegar target : List ℕ) where
 
   -- What signing promises: r is the answer, work and output the lent buffers at entry, work′ and output′ at exit.
   pub record Signs (salt work output : List ℕ) (r : Signing) (work′ output′ : List ℕ) : Type 0 where
-    -- 10 to 21 exactly on their conditions, the lowest first; every buffer as it was
-    pub refused : (lowest (signRefusals set public abq private vinegar target salt work output) ≡ 0 → ⊥)
-        → (r ≡ Refused (lowest (signRefusals set public abq private vinegar target salt work output))) × ((work′ ≡ work) × (output′ ≡ output))
+    -- 10 to 21 exactly on their conditions, the first in their order; every buffer as it was
+    pub refused : (first (signRefusals set public abq private vinegar target salt work output) ≡ 0 → ⊥)
+        → (r ≡ Refused (first (signRefusals set public abq private vinegar target salt work output))) × ((work′ ≡ work) × (output′ ≡ output))
     -- nothing refused: done or redo
-    pub answered : lowest (signRefusals set public abq private vinegar target salt work output) ≡ 0 → (r ≡ Done) ⊎ (r ≡ Redo)
+    pub answered : first (signRefusals set public abq private vinegar target salt work output) ≡ 0 → (r ≡ Done) ⊎ (r ≡ Redo)
     -- redo only where some oil choice, not all zero, is sent to zero; the output as it was
     pub redo : r ≡ Redo → Again × (output′ ≡ output)
     -- done only where none is: the output holds the signature, whole
     pub done : r ≡ Done → Emitted salt output′
     -- on done and redo the work area is all zero
-    pub wiped : lowest (signRefusals set public abq private vinegar target salt work output) ≡ 0 → work′ ≡ zeros (length work)
+    pub wiped : first (signRefusals set public abq private vinegar target salt work output) ≡ 0 → work′ ≡ zeros (length work)

@@ -6,7 +6,7 @@ use mathlib.Core.Logic.{_⊎_, inl, inr, _↔_}
 use mathlib.Core.List.{List}
 use Prim.Native.Nat.{ℕ}
 use native.Mathlib.Decide.{ℕ-discrete}
-use Rattle.ground.specs.Answers.{lowest}
+use Rattle.ground.specs.Answers.{first}
 use Rattle.sets.specs.declared.Set.{Set}
 use Rattle.scheme.specs.Streams.{vinegarOf}
 use Rattle.scheme.specs.Maps.{centralMap, keyOf}
@@ -15,7 +15,8 @@ use Rattle.scheme.specs.Verdict.{accepted, accepted-change, entries-meet}
 use Rattle.signing.specs.declared.Signing.{Signing}
 use Rattle.signing.specs.declared.Signing.the-variants.{Done, Redo}
 use Rattle.ground.specs.Outcome.{unique-equation}
-use Rattle.signing.specs.Signs.{numberOf, signRefusals, Again, Emitted, Signs}
+use Rattle.scheme.specs.Refusals.{signRefusals}
+use Rattle.signing.specs.Signs.{numberOf, Again, Emitted, Signs}
 use Rattle.signing.specs.Signature.{signature-cong}
 
 pub unique-number : (answer : Signing) {n n′ : ℕ} → n ≡ numberOf answer → n′ ≡ numberOf answer → n ≡ n′
@@ -40,7 +41,7 @@ module _ {set : Set} {public abq private vinegar target salt : List ℕ} where
     signed-accepted a = emitted-accepted (a .done (cc))
 
     module _ {r : Signing} {work′ output′ : List ℕ} (a : Signs set public abq private vinegar target salt work output r work′ output′)
-        (fits : lowest (signRefusals set public abq private vinegar target salt work output) ≡ 0) where
+        (fits : first (signRefusals set public abq private vinegar target salt work output) ≡ 0) where
       -- where nothing is refused, redo is answered exactly where some oil choice, not all zero, is sent to zero
       pub redo-exactly : (r ≡ Redo) ↔ Again set public abq private vinegar target
       redo-exactly = ((λ e. a .redo e .0), (λ again. by (a .answered fits) again))
@@ -61,7 +62,7 @@ module _ {set : Set} {public abq private vinegar target salt : List ℕ} where
     pub unique-sign : {r r′ : Signing} {w w′ s s′ : List ℕ} → Signs set public abq private vinegar target salt work output r w s
         → Signs set public abq private vinegar target salt work output r′ w′ s′ → (r ≡ r′) × ((w ≡ w′) × (s ≡ s′))
     unique-sign {r} {r′} {w} {w′} {s} {s′} a b =
-        elim (ℕ-discrete (lowest (signRefusals set public abq private vinegar target salt work output)) 0) [
+        elim (ℕ-discrete (first (signRefusals set public abq private vinegar target salt work output)) 0) [
           | yes e ↦ by e (a .answered e) (b .answered e)
           | no n ↦
               let p = a .refused n in
@@ -69,7 +70,7 @@ module _ {set : Set} {public abq private vinegar target salt : List ℕ} where
               (p .0 ∙ sym (q .0), (p .1 .0 ∙ sym (q .1 .0), p .1 .1 ∙ sym (q .1 .1)))
         ]
       where
-        by : lowest (signRefusals set public abq private vinegar target salt work output) ≡ 0 → (r ≡ Done) ⊎ (r ≡ Redo) → (r′ ≡ Done) ⊎ (r′ ≡ Redo)
+        by : first (signRefusals set public abq private vinegar target salt work output) ≡ 0 → (r ≡ Done) ⊎ (r ≡ Redo) → (r′ ≡ Done) ⊎ (r′ ≡ Redo)
             → (r ≡ r′) × ((w ≡ w′) × (s ≡ s′))
         by e (inl p) (inl q) = (p ∙ sym q, (a .wiped e ∙ sym (b .wiped e), unique-emitted (a .done p) (b .done q)))
         by e (inl p) (inr q) = absurd (redo-exclusive (b .redo q .0) (a .done p .only-zero))

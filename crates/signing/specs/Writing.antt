@@ -36,13 +36,6 @@ use Rattle.tables.specs.Table.{Holds}
 use Rattle.tables.specs.Unpacked.{Unpacked}
 use Rattle.signing.specs.Signs.{solutionOf}
 
--- a part written from the first place on, one place more; and the end of such a loop
-pub segment-more : {s t : List ℕ} {n : ℕ} {f : ℕ → ℕ} → Segment s 0 n f t → n < length s → (x : ℕ) → x ≡ f n → Segment s 0 (n + 1) f (set t n x)
-segment-more {s} {t} {n} {f} g l x e = subst (λ i. Segment s 0 (n + 1) f (set t i x)) (zero-plus n) (segment-next g (omega arith) x e)
-
-pub segment-end : {s t : List ℕ} {base i n : ℕ} {f : ℕ → ℕ} → Segment s base i f t → i ≤ n → n ≤ i → Segment s base n f t
-segment-end {s} {t} {base} {f = f} g h l = subst (λ k. Segment s base k f t) (omega arith) g
-
 -- row y of T12 times the oil: row y of the table t, in rows of w bytes, times the w rows of l bytes of the oil
 abbrev pub oilRow : (l w : ℕ) (t oil : List ℕ) → ℕ → ℕ → ℕ
 oilRow l w t oil y = combination (λ x. getD t (y * w + x * 1) 0) oil l 0 w

@@ -6,8 +6,9 @@ mod writing;
 
 pub use numbers::number;
 ghost use mathlib.Core.Path.{_≡_};
-ghost use Rattle.ground.specs.Answers.{lowest};
-ghost use Rattle.signing.specs.Signs.{signRefusals, Signs};
+ghost use Rattle.ground.specs.Answers.{first};
+ghost use Rattle.scheme.specs.Refusals.{signRefusals};
+ghost use Rattle.signing.specs.Signs.{Signs};
 use ground::Answer;
 use linear::Outcome;
 use sets::Set;
@@ -34,7 +35,7 @@ fn sign_lent(
     work: &mut [u8],
     output: &mut [u8],
 ) -> Signing
-    requires { ⌜ lowest (signRefusals set (now public) (now abq) (now private) (now vinegar) (now target) (now salt) (now work) (now output)) ≡ 0 ⌝ }
+    requires { ⌜ first (signRefusals set (now public) (now abq) (now private) (now vinegar) (now target) (now salt) (now work) (now output)) ≡ 0 ⌝ }
     ensures { λ r. ⌜ Signs set (now (public .entry)) (now (abq .entry)) (now (private .entry)) (now (vinegar .entry)) (now (target .entry)) (now (salt .entry))
         (now (work .entry)) (now (output .entry)) r (now (work .exit)) (now (output .exit)) ⌝ }
 {
@@ -67,23 +68,19 @@ pub fn sign(
     ensures { λ r. ⌜ Signs set (now (public .entry)) (now (abq .entry)) (now (private .entry)) (now (vinegar .entry)) (now (target .entry)) (now (salt .entry))
         (now (work .entry)) (now (output .entry)) r (now (work .exit)) (now (output .exit)) ⌝ }
 {
-    let refusal = refusals::sign_refusal(
+    let answer = checks::check_sign(
         set,
-        public.len(),
-        abq.len(),
-        private.len(),
-        vinegar.len(),
-        target.len(),
-        salt.len(),
-        work.len(),
-        output.len(),
+        public,
+        abq,
+        private,
+        vinegar,
+        target,
+        salt,
+        work,
+        output,
     );
-    if refusal != 0 {
-        return Signing::Refused(refusal);
-    }
-    let invertible = terms::all_invertible(set, abq);
-    let Answer::Done = invertible else {
-        return Signing::Refused(ground::number(invertible));
+    let Answer::Done = answer else {
+        return Signing::Refused(ground::number(answer));
     };
     sign_lent(
         set,

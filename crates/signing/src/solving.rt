@@ -1,10 +1,9 @@
 // The linear system, built in the work area and eliminated: what it finds is the one oil choice that solves, or that there is no such one.
 ghost use mathlib.Core.Path.{_≡_};
-ghost use mathlib.Core.Bool.{true};
 ghost use lib.ListN.{length};
 ghost use Rattle.sets.specs.Bounds.{Bounds};
-ghost use Rattle.sets.specs.Sets.{publicBytes, abqBytes, privateBytes, vinegarBytes, targetBytes, workBytes};
-ghost use Rattle.scheme.specs.Maps.{allInvertible};
+ghost use Rattle.sets.specs.Sets.{publicBytes, privateBytes, vinegarBytes, targetBytes, workBytes};
+ghost use Rattle.streams.specs.TermOf.{AbqLent};
 ghost use Prim.Native.Nat.{_*_, _≤_};
 ghost use Rattle.scheme.specs.Regroup.{powerTimes};
 ghost use Rattle.scheme.specs.Streams.{vinegarOf};
@@ -12,18 +11,13 @@ ghost use Rattle.tables.specs.RingRows.{Powers};
 ghost use Rattle.tables.specs.Table.{Holds};
 ghost use Rattle.signing.specs.Solving.{Built, Solving};
 use linear::Outcome;
+use sets::POWER_SUMS_ROOM;
+use sets::POWERS_ROOM;
+use sets::PRIVATE_ROOM;
+use sets::SIDE_SUMS_ROOM;
 use sets::Set;
-use tables::POWERS;
-use tables::PRIVATE;
-
-// Room for the vinegar, for the powers of S times the vinegar, for the left or the right sums, and for the sums by powers (tables' specs/Rooms.antt).
-const MOST_VINEGAR: usize = 1200;
-
-const MOST_POWERS: usize = 4800;
-
-const MOST_SIDES: usize = 12800;
-
-const MOST_SUMS: usize = 2560;
+use sets::VINEGAR_POWERS_ROOM;
+use sets::VINEGAR_ROOM;
 
 // x becomes the powers of S times the vinegar. sp is the table of the powers of S.
 fn load_vinegar(x: &mut [u8], set: Set, vinegar: &[u8], sp: &[u8])
@@ -32,7 +26,7 @@ fn load_vinegar(x: &mut [u8], set: Set, vinegar: &[u8], sp: &[u8])
     ensures { λ _. ⌜ Holds (set .l) (set .l * set .l) (set .v) (set .l) (now (x .exit)) (λ j b. powerTimes (set .l) b (vinegarOf set (now (vinegar .entry)) j)) ⌝ }
 {
     let count = sets::vinegar_count(set);
-    let mut list = [0u8; MOST_VINEGAR];
+    let mut list = [0u8; VINEGAR_ROOM];
     tables::unpack_all(&mut list, vinegar, count);
     tables::power_table(x, set.l, set.v, &list, sp);
 }
@@ -47,21 +41,21 @@ fn build_system(
     vinegar: &[u8],
     target: &[u8],
 )
-    requires { ⌜ Bounds set × (allInvertible set (now abq) ≡ true) ⌝ }
-    requires { ⌜ (length (now public) ≡ publicBytes set) × ((length (now abq) ≡ abqBytes set) × (length (now private) ≡ privateBytes set)) ⌝ }
+    requires { ⌜ Bounds set × AbqLent set (now abq) ⌝ }
+    requires { ⌜ (length (now public) ≡ publicBytes set) × (length (now private) ≡ privateBytes set) ⌝ }
     requires { ⌜ (length (now vinegar) ≡ vinegarBytes set) × ((length (now target) ≡ targetBytes set) × (length (now work) ≡ workBytes set)) ⌝ }
     ensures { λ _. ⌜ Built set (now (public .entry)) (now (abq .entry)) (now (private .entry)) (now (vinegar .entry)) (now (target .entry)) (now (work .exit)) ⌝ }
 {
-    let mut sp = [0u8; POWERS];
+    let mut sp = [0u8; POWERS_ROOM];
     tables::powers_of_s(&mut sp, set.l);
-    let mut t = [0u8; PRIVATE];
+    let mut t = [0u8; PRIVATE_ROOM];
     tables::private_table(&mut t, set, private, &sp);
-    let mut x = [0u8; MOST_POWERS];
+    let mut x = [0u8; VINEGAR_POWERS_ROOM];
     load_vinegar(&mut x, set, vinegar, &sp);
-    let mut left = [0u8; MOST_SIDES];
+    let mut left = [0u8; SIDE_SUMS_ROOM];
     partial_sums::fill_left(&mut left, set, public, &x, &t);
-    let mut right = [0u8; MOST_SIDES];
-    let mut sums = [0u8; MOST_SUMS];
+    let mut right = [0u8; SIDE_SUMS_ROOM];
+    let mut sums = [0u8; POWER_SUMS_ROOM];
     partial_sums::fill_right(&mut right, &mut sums, set, public, &x, &t);
     system::build(work, set, abq, target, &left, &right, &sums, &sp);
 }
@@ -76,8 +70,8 @@ pub fn solve(
     vinegar: &[u8],
     target: &[u8],
 ) -> Outcome
-    requires { ⌜ Bounds set × (allInvertible set (now abq) ≡ true) ⌝ }
-    requires { ⌜ (length (now public) ≡ publicBytes set) × ((length (now abq) ≡ abqBytes set) × (length (now private) ≡ privateBytes set)) ⌝ }
+    requires { ⌜ Bounds set × AbqLent set (now abq) ⌝ }
+    requires { ⌜ (length (now public) ≡ publicBytes set) × (length (now private) ≡ privateBytes set) ⌝ }
     requires { ⌜ (length (now vinegar) ≡ vinegarBytes set) × ((length (now target) ≡ targetBytes set) × (length (now work) ≡ workBytes set)) ⌝ }
     ensures { λ r. ⌜ Solving set (now (public .entry)) (now (abq .entry)) (now (private .entry)) (now (vinegar .entry)) (now (target .entry)) r (now (work .exit)) ⌝ }
 {

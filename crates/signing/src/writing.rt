@@ -7,24 +7,24 @@ ghost use Rattle.ground.specs.Fill.{tab};
 ghost use Rattle.ground.specs.Segment.{Segment};
 ghost use Rattle.packing.specs.Packing.{packed, packedBytes};
 ghost use Rattle.sets.specs.Bounds.{Bounds};
-ghost use Rattle.sets.specs.Sets.{privateBytes, vinegarBytes, unknowns, signatureCount};
+ghost use Rattle.sets.specs.Sets.{privateBytes, vinegarBytes, unknowns, signatureCount, mostRow};
 ghost use Rattle.scheme.specs.Oil.{oilFrom};
 ghost use Rattle.rows.specs.PlusRows.{PlusRows};
 ghost use Rattle.linear.specs.System.{at};
 ghost use Rattle.signing.specs.Signs.{signatureWith};
 ghost use Rattle.signing.specs.Writing.{oilRow, oilOf, SolutionList};
+use sets::LIST_ROOM;
+use sets::MOST_ROW;
+use sets::POWERS_ROOM;
+use sets::PRIVATE_ROOM;
 use sets::Set;
-use tables::POWERS;
-use tables::PRIVATE;
 
-// Room for the unknowns, and for the elements of a signature and a spare half.
-const MOST_UNKNOWNS: usize = 160;
-
-const MOST_ELEMENTS: usize = 1361;
+// Room for the elements of a signature and a spare half.
+const ELEMENTS_ROOM: usize = LIST_ROOM + 1;
 
 // The oil becomes the solution that elimination left in column n of the area.
 fn read_solution(oil: &mut [u8], g: &[u8], n: usize)
-    requires { ⌜ (n ≤ 160) × ((n ≤ length (now oil)) × (n * (n + 1) ≤ length (now g))) ⌝ }
+    requires { ⌜ (n ≤ mostRow) × ((n ≤ length (now oil)) × (n * (n + 1) ≤ length (now g))) ⌝ }
     ensures { λ _. ⌜ Segment (now (oil .entry)) 0 n (λ e. at (now (g .entry)) n e n) (now (oil .exit)) ⌝ }
 {
     let mut e = 0;
@@ -58,9 +58,9 @@ fn solution_list(u: &mut [u8], set: Set, private: &[u8], vinegar: &[u8], oil: &[
     requires { ⌜ ((e : ℕ) → e < unknowns set → getD (now oil) e 0 < 16) ⌝ }
     ensures { λ _. ⌜ SolutionList set (now (private .entry)) (now (vinegar .entry)) (oilOf (set .l) (now (oil .entry))) (now (u .exit)) ⌝ }
 {
-    let mut sp = [0u8; POWERS];
+    let mut sp = [0u8; POWERS_ROOM];
     tables::powers_of_s(&mut sp, set.l);
-    let mut t = [0u8; PRIVATE];
+    let mut t = [0u8; PRIVATE_ROOM];
     tables::private_table(&mut t, set, private, &sp);
     let vinegar_elements = sets::vinegar_count(set);
     let oil_elements = sets::unknowns(set);
@@ -105,9 +105,9 @@ pub fn emit(output: &mut [u8], set: Set, private: &[u8], vinegar: &[u8], salt: &
         (oilFrom (set .l) (λ e. at (now (work .entry)) (unknowns set) e (unknowns set))) ⌝ }
 {
     let n = sets::unknowns(set);
-    let mut oil = [0u8; MOST_UNKNOWNS];
+    let mut oil = [0u8; MOST_ROW];
     read_solution(&mut oil, work, n);
-    let mut u = [0u8; MOST_ELEMENTS];
+    let mut u = [0u8; ELEMENTS_ROOM];
     solution_list(&mut u, set, private, vinegar, &oil);
     write_output(output, set, &u, salt);
 }

@@ -3,14 +3,14 @@
 use mathlib.Core.Path.{_≡_, refl, sym, ap, _∙_}
 use mathlib.Core.Bool.{Bool, true, false}
 use mathlib.Core.Logic.{_↔_}
-use mathlib.Core.List.{List, [], _∷_}
+use mathlib.Core.List.{List}
 use Prim.Native.Nat.{ℕ}
 use native.Mathlib.Decide.{ℕ-discrete}
 use native.Mathlib.Omega.{arith}
 use borrow.Author.Tests.{eq-eqb, ne-eqb}
 use lib.ListN.{length, length-append}
 use Rattle.ground.specs.Pick.{pick}
-use Rattle.ground.specs.Answers.{lowest, unless, answerOf, numberOf, met-none, met-more, lowest-met, lowest-append}
+use Rattle.ground.specs.Answers.{first, answerOf, numberOf}
 use Rattle.ground.specs.Fill.{length-tab}
 use Rattle.ground.specs.Outcome.{Writes}
 use Rattle.ground.specs.declared.Answer.{Answer}
@@ -19,21 +19,22 @@ use Rattle.packing.specs.Packing.{packedBytes}
 use Rattle.packing.specs.Laws.{length-packed}
 use Rattle.sets.specs.declared.Set.{Set}
 use Rattle.sets.specs.Sets.{signatureBytes, saltBytes}
-use Rattle.refusals.specs.Fits.{verdict-met, verdict-exact}
+use Rattle.sets.specs.Bounds.{allowed-from}
+use Rattle.checks.specs.Lent.{sign-lent, verdict-not-refused}
 use Rattle.matrix.specs.Matrix.{Matrix}
 use Rattle.ground.specs.AnswerLaws.{number-of-answer}
 use Rattle.scheme.specs.Maps.{keyOf}
 use Rattle.scheme.specs.Key.{length-keyOf}
-use Rattle.scheme.specs.Verdict.{verdictRefusals}
+use Rattle.scheme.specs.Refusals.{verdictRefusals}
 use Rattle.verdict.specs.declared.Verdict.{Verdict}
 use Rattle.verdict.specs.declared.Verdict.the-variants.{Accepted, NotAccepted}
 use Rattle.verdict.specs.Promise.{verdictOf}
 use Rattle.verdict.specs.Promise.{numberOf as verdictNumber}
 use Rattle.signing.specs.declared.Signing.the-variants as Signings
-use Rattle.signing.specs.Signs.{signRefusals, signatureWith, Signs}
-use Rattle.signing.specs.Refusals.{fits, invertible}
+use Rattle.scheme.specs.Refusals.{signRefusals}
+use Rattle.signing.specs.Signs.{signatureWith, Signs}
 use Rattle.signing.specs.Unique.{signed-accepted}
-use Rattle.snova.specs.Calls.{Verifies}
+use Rattle.verdict.specs.Promise.{Verifies}
 
 -- ---- what was written with 0
 
@@ -75,29 +76,26 @@ length-signature set private vinegar salt oil e = simp (length-append, length-pa
 module _ (set : Set) (public abq private vinegar target salt work output : List ℕ) {work′ signature : List ℕ}
     (s : Signs set public abq private vinegar target salt work output Signings.Done work′ signature) where
   -- done is answered only where nothing is refused
-  done-fits : lowest (signRefusals set public abq private vinegar target salt work output) ≡ 0
+  done-fits : first (signRefusals set public abq private vinegar target salt work output) ≡ 0
   done-fits =
-      elim (ℕ-discrete (lowest (signRefusals set public abq private vinegar target salt work output)) 0) [
+      elim (ℕ-discrete (first (signRefusals set public abq private vinegar target salt work output)) 0) [
         | yes z ↦ z
         | no z ↦ let d = s .refused z .0 in let bad : _≡_ {A = ℕ} 0 1 = cc in absurd (omega arith)
       ]
 
   -- the verdict refuses neither it nor the generated key
-  emitted-fits : lowest (verdictRefusals set public abq target (keyOf set public private) signature) ≡ 0
-  unfolding verdictRefusals
+  emitted-fits : first (verdictRefusals set public abq target (keyOf set public private) signature) ≡ 0
   emitted-fits =
-      let f = fits set public abq private vinegar target salt work output done-fits in
+      let f = sign-lent set public abq private vinegar target salt work output done-fits in
       let e = s .done refl in
-      let exact = verdict-exact set (length public) (length abq) (length target) (length (keyOf set public private)) (length signature) (record {
-        allowed = f .allowed;
-        public = f .public;
-        abq = f .abq;
-        target = f .target;
-        key = length-keyOf set public private;
-        signature = ap length (e .bytes) ∙ length-signature set private vinegar salt (e .oil) (f .salt);
-      }) in
-      lowest-append (unless 21 _ ∷ []) (verdict-met set _ _ _ _ _ exact)
-      ∙ lowest-met (met-more (invertible set public abq private vinegar target salt work output done-fits) met-none)
+      verdict-not-refused set public abq target (keyOf set public private) signature (record {
+        allowed = allowed-from (f .bounds .limits);
+        public-long = f .public-long;
+        abq-lent = f .abq-lent;
+        target-long = f .target-long;
+        key-long = length-keyOf set public private;
+        signature-long = ap length (e .bytes) ∙ length-signature set private vinegar salt (e .oil) (f .salt-long);
+      })
 
   -- and accepts it
   pub emitted-verdict : {r : Verdict} → Verifies set public abq target (keyOf set public private) signature r → r ≡ Accepted

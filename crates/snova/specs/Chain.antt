@@ -9,7 +9,7 @@ use Rattle.verdict.specs.declared.Verdict.{Verdict}
 use Rattle.verdict.specs.declared.Verdict.the-variants as Verdicts
 use Rattle.signing.specs.declared.Signing.the-variants as Signings
 use Rattle.signing.specs.Signs.{Signs}
-use Rattle.snova.specs.Calls.{Verifies}
+use Rattle.verdict.specs.Promise.{Verifies}
 use Rattle.snova.specs.declared.Outcome.{Outcome}
 use Rattle.snova.specs.declared.Outcome.the-variants.{Accepted, NotAccepted, Redo, Refused}
 
@@ -18,6 +18,13 @@ abbrev pub outcomeOf : Verdict → Outcome
 outcomeOf Verdicts.Accepted = Accepted
 outcomeOf Verdicts.NotAccepted = NotAccepted
 outcomeOf (Verdicts.Refused n) = Refused n
+
+-- the page's number of an outcome
+abbrev pub outcomeNumber : Outcome → ℕ
+outcomeNumber Accepted = 0
+outcomeNumber NotAccepted = 1
+outcomeNumber Redo = 2
+outcomeNumber (Refused n) = n
 
 module _ (set : Set) (public abq private vinegar target salt work key output : List ℕ) where
   -- the outcome, then work area, key and signature as the calls leave them

@@ -1,20 +1,23 @@
 -- The sentences as a caller of the C interface sees them: of the numbers that the functions return.
 -- Rests on Sentences; what is said there of an answer's number holds of the number returned.
 use mathlib.Core.Path.{_≡_, sym, ap, subst, _∙_}
-use mathlib.Core.Logic.{_↔_}
+use mathlib.Core.Logic.{_↔_, _⊎_, inl, inr, ⊎-elim}
 use mathlib.Core.List.{List}
 use Prim.Native.Nat.{ℕ}
-use Rattle.ground.specs.Answers.{Rule}
-use Rattle.ground.specs.Applies.{NoneApplies}
+use lib.ListN.{length}
+use Rattle.rows.specs.Zero.{zeros}
+use Rattle.scheme.specs.Refusals.{verdictRefusals}
+use Rattle.ground.specs.Answers.{Rule, Met}
 use Rattle.sets.specs.declared.Set.{Set}
 use Rattle.keys.specs.Generates.{Generates}
 use Rattle.scheme.specs.Streams.{vinegarOf}
 use Rattle.scheme.specs.Oil.{Redo}
 use Rattle.verdict.specs.Promise.{numberOf as verdictNumber}
-use Rattle.signing.specs.Signs.{signRefusals, Signs}
+use Rattle.scheme.specs.Refusals.{signRefusals}
+use Rattle.signing.specs.Signs.{Signs}
 use Rattle.snova.specs.Answered.{Answered, sign-done}
 use Rattle.snova.specs.Accepted.{answer-zero}
-use Rattle.snova.specs.Sentences.{sentence-3}
+use Rattle.snova.specs.Sentences.{EveryEntryEqual, sentence-1, sentence-2, sentence-3}
 use Rattle.snova.specs.Interface.{Numbered, Keygen, Sign, Verify}
 
 -- the first sentence: what it says of every answer's number it says of the number returned
@@ -36,7 +39,23 @@ module _ (set : Set) (public abq private vinegar target salt work output : List 
 
   -- and 2 of signing exactly when some oil choice, not all zero, is sent to zero
   pub returned-redo : Sign set public abq private vinegar target salt work output n work′ signature
-      → NoneApplies (signRefusals set public abq private vinegar target salt work output) → (n ≡ 2) ↔ Redo set public abq private (vinegarOf set vinegar)
+      → Met (signRefusals set public abq private vinegar target salt work output) → (n ≡ 2) ↔ Redo set public abq private (vinegarOf set vinegar)
   returned-redo s none =
       let exact = sentence-3 .redo set public abq private vinegar target salt work output (s .answer) work′ signature (s .meets) none in
       ((λ e. exact .0 (sym (s .is) ∙ e)), (λ again. s .is ∙ exact .1 again))
+
+  -- the first sentence: after 0 and 2 the work area is all zero, and 2 leaves the output as it was
+  pub returned-wiped : Sign set public abq private vinegar target salt work output n work′ signature → (n ≡ 0) ⊎ (n ≡ 2) → work′ ≡ zeros (length work)
+  returned-wiped s w =
+      sentence-1 .wiped set public abq private vinegar target salt work output (s .answer) work′ signature (s .meets)
+      (⊎-elim (λ e. inl (sym (s .is) ∙ e)) (λ e. inr (sym (s .is) ∙ e)) w)
+
+  pub returned-kept : Sign set public abq private vinegar target salt work output n work′ signature → n ≡ 2 → signature ≡ output
+  returned-kept s e = sentence-1 .redo-kept set public abq private vinegar target salt work output (s .answer) work′ signature (s .meets) (sym (s .is) ∙ e)
+
+-- the second sentence: 0 of the verdict exactly where nothing is refused and every entry equals the target
+pub returned-verdict : (set : Set) (public abq target key signature : List ℕ) {n : ℕ} → Verify set public abq target key signature n
+    → (n ≡ 0) ↔ (Met (verdictRefusals set public abq target key signature) × EveryEntryEqual set public abq target key signature)
+returned-verdict set public abq target key signature v =
+    let exact = sentence-2 .accepted set public abq target key signature (v .answer) (v .meets) in
+    ((λ e. exact .0 (sym (v .is) ∙ e)), (λ w. v .is ∙ exact .1 w))

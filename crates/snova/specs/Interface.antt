@@ -10,7 +10,8 @@ use Rattle.keys.specs.Generates.{Generates}
 use Rattle.verdict.specs.Promise.{numberOf as verdictNumber}
 use Rattle.signing.specs.Signs.{Signs}
 use Rattle.signing.specs.Signs.{numberOf as signNumber}
-use Rattle.snova.specs.Calls.{Verifies, SaltStatus}
+use Rattle.verdict.specs.Promise.{Verifies}
+use Rattle.salt.specs.Salt.{SaltStatus}
 
 -- n is the number of an answer that meets the promise
 pub record Numbered {A : Type 0} (number : A → ℕ) (Promise : A → Type 0) (n : ℕ) : Type 0 where

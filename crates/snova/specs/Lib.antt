@@ -1,4 +1,3 @@
-pub mod Calls
 pub mod Answered
 pub mod Accepted
 pub mod Sentences

@@ -13,7 +13,7 @@ use Rattle.verdict.specs.declared.Verdict.the-variants as Verdicts
 use Rattle.signing.specs.declared.Signing.{Signing}
 use Rattle.signing.specs.declared.Signing.the-variants as Signings
 use Rattle.signing.specs.Signs.{Signs}
-use Rattle.snova.specs.Calls.{Verifies}
+use Rattle.verdict.specs.Promise.{Verifies}
 use Rattle.snova.specs.Accepted.{written-zero, emitted-verdict}
 use Rattle.snova.specs.declared.Outcome.{Outcome}
 use Rattle.snova.specs.declared.Outcome.the-variants.{Redo, Refused}

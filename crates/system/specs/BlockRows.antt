@@ -19,22 +19,17 @@ use Rattle.rows.specs.PlusRows.{PlusRows, rows-cong}
 use Rattle.rows.specs.Tile.{tile}
 use Rattle.matrix.specs.Matrix.{Matrix, scaleM}
 use Rattle.matrix.specs.Same.{sum-entry}
-use Rattle.matrix.specs.Block.{block}
+use Rattle.matrix.specs.Block.{block, blockBytes, stride}
 use Rattle.matrix.specs.BlockRows.{blockRow, block-row, block-filled}
 use Rattle.scheme.specs.Maps.{sumM}
 
 -- row r of a block of a table, times a factor
-pub tile-row : (l w : ℕ) (table : List ℕ) (j k r factor : ℕ) {d t : List ℕ} {at : ℕ} → l ≤ 5
-    → Plus d at l (λ c. mul factor (getD table ((j * l + r) * w + k * l + c) 0)) t → Plus d at 5 (blockRow l (scaleM factor (tile l w table j k)) r) t
+pub tile-row : (l w : ℕ) (table : List ℕ) (j k r factor : ℕ) {d t : List ℕ} {at : ℕ} → l ≤ stride
+    → Plus d at l (λ c. mul factor (getD table ((j * l + r) * w + k * l + c) 0)) t → Plus d at stride (blockRow l (scaleM factor (tile l w table j k)) r) t
 unfolding scaleM tile
 tile-row l w table j k r factor small p =
     block-row {r = r} (scaleM factor (tile l w table j k)) small
     (plus-cong (λ c h. let place : (j * l + r) * w + k * l + c ≡ (j * l + r) * w + (k * l + c) = omega arith in ap (λ x. mul factor (getD table x 0)) place) p)
-
--- the factor that was read, in the place of its definition
-pub tile-factor : (l w : ℕ) (table : List ℕ) (j k : ℕ) {d t : List ℕ} {factor q : ℕ} → factor ≡ q
-    → PlusRows d 0 l 5 (blockRow l (scaleM factor (tile l w table j k))) t → PlusRows d 0 l 5 (blockRow l (scaleM q (tile l w table j k))) t
-tile-factor l w table j k {d} {t} e p = subst (λ x. PlusRows d 0 l 5 (blockRow l (scaleM x (tile l w table j k))) t) e p
 
 -- a row of a sum of matrices
 block-sum : (l n : ℕ) (g : ℕ → Matrix) (r c : ℕ) → sum 0 add n (λ x. blockRow l (g x) r c) ≡ blockRow l (sumM n g) r c
@@ -45,7 +40,7 @@ block-sum l n g r c = by (ltb c l)
     by true = sym (sum-entry n g r c)
     by false = sum-zeros field-ring n (λ k h. refl)
 
-pub block-summed : {l : ℕ} (n : ℕ) (g : ℕ → Matrix) {t : List ℕ} → PlusRows (zeros 25) 0 l 5 (λ r c. sum 0 add n (λ x. blockRow l (g x) r c)) t → t ≡ block l (sumM n g)
+pub block-summed : {l : ℕ} (n : ℕ) (g : ℕ → Matrix) {t : List ℕ} → PlusRows (zeros blockBytes) 0 l stride (λ r c. sum 0 add n (λ x. blockRow l (g x) r c)) t → t ≡ block l (sumM n g)
 block-summed {l} n g p = block-filled (sumM n g) (rows-cong (λ r c hr hc. block-sum l n g r c) p)
 
 -- ---- places

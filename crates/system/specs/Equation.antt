@@ -21,19 +21,21 @@ use Rattle.rows.specs.Zero.{zeros, length-zeros}
 use Rattle.rows.specs.Plus.{Plus, plus-then}
 use Rattle.rows.specs.PlusRows.{PlusRows, rows-cong}
 use Rattle.sets.specs.declared.Set.{Set}
-use Rattle.sets.specs.Sets.{terms, targetBytes}
+use Rattle.sets.specs.Sets.{terms, targetBytes, mostL, mostRow}
 use Rattle.sets.specs.Bounds.{Bounds}
 use Rattle.matrix.specs.Matrix.{Matrix, transpose}
 use Rattle.matrix.specs.Same.{same-refl, same-mul, mulM-lt, sumM-lt}
-use Rattle.matrix.specs.Block.{view, block, block-same, holds, cell, cell-at, getD-block}
+use Rattle.matrix.specs.Block.{view, block, block-same, holds, cell, cell-at, getD-block, stride}
 use Rattle.scheme.specs.Streams.{A, B}
 use Rattle.scheme.specs.Maps.{matrixIndex}
 use Rattle.scheme.specs.Regroup.{q1Of, q2Of}
-use Rattle.terms.specs.Places.{Term}
+use Rattle.matrix.specs.Promises.{coefficients}
+use Rattle.streams.specs.declared.Term.{Term}
+use Rattle.streams.specs.TermOf.{TermOf, coefficient-in}
 use Rattle.terms.specs.Terms.{equationFrom, termFrom}
 use Rattle.tables.specs.Table.{cleared}
 use Rattle.tables.specs.Sums.{HasRows, zero-rows-from}
-use Rattle.system.specs.Sides.{Sides, sideOf, combinedFrom, outerRow, cellGain, rowGain}
+use Rattle.system.specs.Sides.{Sides, sideOf, combinedFrom, combined-cong, outerRow, cellGain, rowGain, productsRoom}
 
 module _ (set : Set) (abq left right sp : List ℕ) where
   -- A·L·Q2 of oil index k
@@ -85,40 +87,62 @@ pub record Built (set : Set) (abq target left right sums sp before after : List 
       → getD after ((i * (set .l * set .l) + e) * (set .o * set .l * set .l + 1) + z) 0 ≡ systemRow set abq target left right sums sp i e z
   pub beyond : (k : ℕ) → set .o * (set .l * set .l) * (set .o * set .l * set .l + 1) ≤ k → getD after k 0 ≡ 0
 
+-- ---- what the code asks of its tables
+
+-- the left sums, the right sums and the powers of S fit into so many bytes
+pub record TableRooms (set : Set) (left right sp : ℕ) : Type 0 where
+  pub left-fits : set .o * (set .l * set .l) * (set .o * set .l) ≤ left
+  pub right-fits : set .o * (set .o * set .l) * (set .l * set .l) ≤ right
+  pub powers-fit : set .l * set .l * set .l ≤ sp
+
+-- and the products of an equation's terms into these
+pub record ProductRooms (set : Set) (lefts rights : ℕ) : Type 0 where
+  pub lefts-fit : set .o * set .l * set .l * (set .l * stride) ≤ lefts
+  pub rights-fit : set .o * set .l * set .l * (set .l * stride) ≤ rights
+
+-- what all terms of equation i add to the products, and the sum of their values
+pub record Gathered (set : Set) (abq left right sums sp : List ℕ) (i : ℕ) (lefts rights lefts′ rights′ known : List ℕ) : Type 0 where
+  pub by-left : PlusRows lefts 0 (set .o * set .l * set .l) (set .l * stride) (λ z e. sum 0 add (terms set) (λ alpha. leftTerm set abq left right sp i alpha z e)) lefts′
+  pub by-right : PlusRows rights 0 (set .o * set .l * set .l) (set .l * stride) (λ z e. sum 0 add (terms set) (λ alpha. rightTerm set abq left right sp i alpha z e)) rights′
+  pub value : known ≡ block (set .l) (equationFrom set abq sums i)
+
 -- ---- one term
 
--- the products made of the blocks are the term's
-module _ {set : Set} {i alpha : ℕ} (term : Term set i alpha) (abq left right sp : List ℕ) {a b q1 q2 : List ℕ} {index : ℕ} {g1 g2 : ℕ → ℕ}
-    (index-is : index ≡ matrixIndex set i alpha) (g1-is : g1 ≡ q1Of set abq i alpha) (g2-is : g2 ≡ q2Of set abq i alpha)
-    (a-is : a ≡ block (set .l) (A set abq i alpha)) (b-is : b ≡ block (set .l) (B set abq i alpha))
-    (q1-is : q1 ≡ block (set .l) (combinedFrom (set .l) g1 sp (set .l) 0 0 1 0)) (q2-is : q2 ≡ block (set .l) (combinedFrom (set .l) g2 sp (set .l) 0 0 1 0)) where
+-- the products made of what was read are the term's
+module _ {set : Set} (bounds : Bounds set) {i alpha : ℕ} (abq left right sp : List ℕ) {term : Term} (is : TermOf set abq i alpha term) {q1 q2 : List ℕ}
+    (q1-is : q1 ≡ block (set .l) (combinedFrom (set .l) (coefficients (term .q1)) sp (set .l) 0 0 1 0))
+    (q2-is : q2 ≡ block (set .l) (combinedFrom (set .l) (coefficients (term .q2)) sp (set .l) 0 0 1 0)) where
   positive : 0 < set .l
-  positive = omega (arith, term .bounds .limits .l-least)
+  positive = omega (arith, bounds .limits .l-least)
 
-  small : set .l ≤ 5
-  small = omega (arith, term .bounds .limits .l-most)
+  small : set .l ≤ stride
+  small = omega (arith, bounds .limits .l-most)
 
-  pub left-products : {lefts bt d t : List ℕ} → bt ≡ block (set .l) (transpose (view b))
-      → Sides (set .l) (set .o) (sideOf (set .l) (view a) g1 left (set .o * set .l) (index * set .l) 1 0 (view q2)) lefts
-      → PlusRows d 0 (set .o * set .l * set .l) (set .l * 5) (outerRow (set .l) lefts bt) t
-      → PlusRows d 0 (set .o * set .l * set .l) (set .l * 5) (leftTerm set abq left right sp i alpha) t
+  pub left-products : {lefts bt d t : List ℕ} → bt ≡ block (set .l) (transpose (view (term .b)))
+      → Sides (set .l) (set .o) (sideOf (set .l) (view (term .a)) (coefficients (term .q1)) left (set .o * set .l) (term .index * set .l) 1 0 (view q2)) lefts
+      → PlusRows d 0 (set .o * set .l * set .l) (set .l * stride) (outerRow (set .l) lefts bt) t
+      → PlusRows d 0 (set .o * set .l * set .l) (set .l * stride) (leftTerm set abq left right sp i alpha) t
   unfolding outerRow leftTerm sideOf transpose
   left-products {bt = bt} bt-is h p = rows-cong (λ z e hz he.
       let q = div-lt-iff-lt-mul positive .1 hz in
       let k = div-lt-iff-lt-mul positive .1 q in
       let r = mod-lt (z / set .l) positive in
       let y = mod-lt z positive in
-      let whole : bt ≡ block (set .l) (transpose (B set abq i alpha)) = bt-is ∙ block-same (record { at = λ x w hx hw. holds small b-is .at w x hw hx }) in
+      let whole : bt ≡ block (set .l) (transpose (B set abq i alpha)) = bt-is ∙ block-same (record { at = λ x w hx hw. holds small (is .b) .at w x hw hx }) in
       ap₂ mul
       (h .at (z / set .l / set .l) (z / set .l % set .l) (z % set .l) k r y
-      ∙ same-mul (holds small a-is) (same-mul same-refl (holds small q2-is)) .at (z / set .l % set .l) (z % set .l) r y
-      ∙ rw (index-is, g1-is, g2-is))
+      ∙ same-mul (holds small (is .a)) (same-mul same-refl (holds small q2-is)) .at (z / set .l % set .l) (z % set .l) r y
+      ∙ rw (
+        combined-cong (set .l) left (set .o * set .l) (term .index * set .l + z / set .l / set .l * 0) (z / set .l / set .l * 1) 1 0 (coefficient-in (is .q1)),
+        combined-cong (set .l) sp (set .l) 0 0 1 0 (coefficient-in (is .q2)),
+        is .index,
+      ))
       (ap (λ m. getD m e 0) whole ∙ getD-block (set .l) (transpose (B set abq i alpha)) e (omega (arith, he, small)))) p
 
   pub right-products : {rights d t : List ℕ}
-      → Sides (set .l) (set .o) (sideOf (set .l) (view q1) g2 right (set .l * set .l) (index * set .o) 0 1 (view b)) rights
-      → PlusRows d 0 (set .o * set .l * set .l) (set .l * 5) (outerRow (set .l) rights a) t
-      → PlusRows d 0 (set .o * set .l * set .l) (set .l * 5) (rightTerm set abq left right sp i alpha) t
+      → Sides (set .l) (set .o) (sideOf (set .l) (view q1) (coefficients (term .q2)) right (set .l * set .l) (term .index * set .o) 0 1 (view (term .b))) rights
+      → PlusRows d 0 (set .o * set .l * set .l) (set .l * stride) (outerRow (set .l) rights (term .a)) t
+      → PlusRows d 0 (set .o * set .l * set .l) (set .l * stride) (rightTerm set abq left right sp i alpha) t
   unfolding outerRow rightTerm sideOf
   right-products h p = rows-cong (λ z e hz he.
       let q = div-lt-iff-lt-mul positive .1 hz in
@@ -127,32 +151,36 @@ module _ {set : Set} {i alpha : ℕ} (term : Term set i alpha) (abq left right s
       let c = mod-lt z positive in
       ap₂ mul
       (h .at (z / set .l / set .l) (z / set .l % set .l) (z % set .l) k y c
-      ∙ same-mul (holds small q1-is) (same-mul same-refl (holds small b-is)) .at (z / set .l % set .l) (z % set .l) y c
-      ∙ rw (index-is, g1-is, g2-is))
-      (ap (λ m. getD m e 0) a-is ∙ getD-block (set .l) (A set abq i alpha) e (omega (arith, he, small)))) p
+      ∙ same-mul (holds small q1-is) (same-mul same-refl (holds small (is .b))) .at (z / set .l % set .l) (z % set .l) y c
+      ∙ rw (
+        combined-cong (set .l) right (set .l * set .l) (term .index * set .o + z / set .l / set .l * 1) (z / set .l / set .l * 0) 0 1 (coefficient-in (is .q2)),
+        combined-cong (set .l) sp (set .l) 0 0 1 0 (coefficient-in (is .q1)),
+        is .index,
+      ))
+      (ap (λ m. getD m e 0) (is .a) ∙ getD-block (set .l) (A set abq i alpha) e (omega (arith, he, small)))) p
 
 -- ---- one equation
 
 -- the rows made of the products of all terms are the equation's
 module _ {set : Set} (bounds : Bounds set) (abq left right sp : List ℕ) (i : ℕ) {lefts rights : List ℕ}
-    (left-rows : HasRows (set .o * set .l * set .l) (set .l * 5) (λ z e. sum 0 add (terms set) (λ alpha. leftTerm set abq left right sp i alpha z e)) lefts)
-    (right-rows : HasRows (set .o * set .l * set .l) (set .l * 5) (λ z e. sum 0 add (terms set) (λ alpha. rightTerm set abq left right sp i alpha z e)) rights) where
+    (left-rows : HasRows (set .o * set .l * set .l) (set .l * stride) (λ z e. sum 0 add (terms set) (λ alpha. leftTerm set abq left right sp i alpha z e)) lefts)
+    (right-rows : HasRows (set .o * set .l * set .l) (set .l * stride) (λ z e. sum 0 add (terms set) (λ alpha. rightTerm set abq left right sp i alpha z e)) rights) where
   some : 0 < set .l
   some = omega (arith, bounds .limits .l-least)
 
-  five : set .l ≤ 5
+  five : set .l ≤ stride
   five = omega (arith, bounds .limits .l-most)
 
   left-cell : (r c k y b : ℕ) → r < set .l → c < set .l → k < set .o → y < set .l → b < set .l
-      → mul 1 (getD lefts (((k * set .l + r) * set .l + y) * (set .l * 5) + c * 5 + b) 0)
+      → mul 1 (getD lefts (((k * set .l + r) * set .l + y) * (set .l * stride) + c * stride + b) 0)
       ≡ sum 0 add (terms set) (λ alpha. mul (leftSide set abq left right sp i alpha k r y) (B set abq i alpha b c))
   unfolding leftTerm transpose
   left-cell r c k y b hr hc hk hy hb =
-      let place : ((k * set .l + r) * set .l + y) * (set .l * 5) + c * 5 + b ≡ ((k * set .l + r) * set .l + y) * (set .l * 5) + (c * 5 + b) = omega arith in
+      let place : ((k * set .l + r) * set .l + y) * (set .l * stride) + c * stride + b ≡ ((k * set .l + r) * set .l + y) * (set .l * stride) + (c * stride + b) = omega arith in
       let row : (k * set .l + r) * set .l + y < set .o * set .l * set .l = digits-lt (digits-lt hk hr) hy in
-      let byte : c * 5 + b < set .l * 5 = omega arith in
+      let byte : c * stride + b < set .l * stride = omega arith in
       ap (λ x. mul 1 (getD lefts x 0)) place
-      ∙ ap (mul 1) (left-rows .at ((k * set .l + r) * set .l + y) (c * 5 + b) row byte)
+      ∙ ap (mul 1) (left-rows .at ((k * set .l + r) * set .l + y) (c * stride + b) row byte)
       ∙ one-mul _ (sum-lt (terms set) (λ alpha h. mul-lt _ _))
       ∙ sum-cong field-ring (terms set) (λ alpha h.
       ap₂ mul
@@ -161,15 +189,15 @@ module _ {set : Set} (bounds : Bounds set) (abq left right sp : List ℕ) (i : �
       (cell-at (set .l) (transpose (B set abq i alpha)) c b five hc hb))
 
   right-cell : (r c q b : ℕ) → r < set .l → c < set .l → q < set .o * set .l → b < set .l
-      → mul 1 (getD rights ((q * set .l + c) * (set .l * 5) + r * 5 + b) 0)
+      → mul 1 (getD rights ((q * set .l + c) * (set .l * stride) + r * stride + b) 0)
       ≡ sum 0 add (terms set) (λ alpha. mul (rightSide set abq left right sp i alpha (q / set .l) (q % set .l) c) (A set abq i alpha r b))
   unfolding rightTerm
   right-cell r c q b hr hc hq hb =
-      let place : (q * set .l + c) * (set .l * 5) + r * 5 + b ≡ (q * set .l + c) * (set .l * 5) + (r * 5 + b) = omega arith in
+      let place : (q * set .l + c) * (set .l * stride) + r * stride + b ≡ (q * set .l + c) * (set .l * stride) + (r * stride + b) = omega arith in
       let row : q * set .l + c < set .o * set .l * set .l = digits-lt hq hc in
-      let byte : r * 5 + b < set .l * 5 = omega arith in
+      let byte : r * stride + b < set .l * stride = omega arith in
       ap (λ x. mul 1 (getD rights x 0)) place
-      ∙ ap (mul 1) (right-rows .at (q * set .l + c) (r * 5 + b) row byte)
+      ∙ ap (mul 1) (right-rows .at (q * set .l + c) (r * stride + b) row byte)
       ∙ one-mul _ (sum-lt (terms set) (λ alpha h. mul-lt _ _))
       ∙ sum-cong field-ring (terms set) (λ alpha h.
       ap₂ mul
@@ -220,10 +248,10 @@ widen-last n {d} {t} {at} {place} {f} e p = record {
 
 -- the last byte of row e as the code adds it, from the block of the vinegar part
 unfoldable pub targetAdded : (l n total : ℕ) (known target : List ℕ) (i e z : ℕ) → ℕ
-targetAdded l n total known target i e z = pick (ltb z n) 0 (add (mul 1 (getD known (e / l * 5 + e % l + 0) 0)) (element target (i * total + e + 0)))
+targetAdded l n total known target i e z = pick (ltb z n) 0 (add (mul 1 (getD known (e / l * stride + e % l + 0) 0)) (element target (i * total + e + 0)))
 
 pub target-step : (l n total : ℕ) (known target : List ℕ) (i e : ℕ) {d t u : List ℕ} {at place : ℕ} → place ≡ at + n
-    → Plus d place 1 (λ c. mul 1 (getD known (e / l * 5 + e % l + c) 0)) t → Plus t place 1 (λ c. element target (i * total + e + c)) u
+    → Plus d place 1 (λ c. mul 1 (getD known (e / l * stride + e % l + c) 0)) t → Plus t place 1 (λ c. element target (i * total + e + c)) u
     → Plus d at (n + 1) (targetAdded l n total known target i e) u
 unfolding targetAdded
 target-step l n total known target i e place-is p q = widen-last n place-is (plus-then p q)
@@ -237,13 +265,13 @@ target-rows {set} b abq sums target i {known} is p = rows-cong (λ e z he hz. ap
     positive : 0 < set .l
     positive = omega (arith, b .limits .l-least)
 
-    small : set .l ≤ 5
+    small : set .l ≤ stride
     small = omega (arith, b .limits .l-most)
 
-    value : (e : ℕ) → e < set .l * set .l → add (mul 1 (getD known (e / set .l * 5 + e % set .l + 0) 0)) (element target (i * (set .l * set .l) + e + 0))
+    value : (e : ℕ) → e < set .l * set .l → add (mul 1 (getD known (e / set .l * stride + e % set .l + 0) 0)) (element target (i * (set .l * set .l) + e + 0))
         ≡ add (equationFrom set abq sums i (e / set .l) (e % set .l)) (element target (i * (set .l * set .l) + e))
     value e he =
-        let here : e / set .l * 5 + e % set .l + 0 ≡ e / set .l * 5 + e % set .l = omega arith in
+        let here : e / set .l * stride + e % set .l + 0 ≡ e / set .l * stride + e % set .l = omega arith in
         let there : i * (set .l * set .l) + e + 0 ≡ i * (set .l * set .l) + e = omega arith in
         ap₂ add
         (ap (λ j. mul 1 (getD known j 0)) here
@@ -274,10 +302,10 @@ built set abq target left right sums sp before {after = after} z p = record {
 -- ---- places
 
 -- the products of an equation's terms
-pub products-fit : {set : Set} → Bounds set → set .o * set .l * set .l * (set .l * 5) ≤ 3200
+pub products-fit : {set : Set} → Bounds set → set .o * set .l * set .l * (set .l * stride) ≤ productsRoom
 products-fit {set} b =
-    let row : set .o * set .l * set .l ≤ 160 = omega (arith, b .limits .row) in
-    let width : set .l * 5 ≤ 20 = omega (arith, b .limits .l-most) in
+    let row : set .o * set .l * set .l ≤ mostRow = omega (arith, b .limits .row) in
+    let width : set .l * stride ≤ mostL * stride = omega (arith, b .limits .l-most) in
     omega (arith, mul-le-mul row width)
 
 pub record TermPlaces (set : Set) (index : ℕ) : Type 0 where

@@ -28,7 +28,7 @@ use Rattle.scheme.specs.Maps.{matrixIndex, vinegarPart}
 use Rattle.scheme.specs.Regroup.{q1Of, q2Of, powerTimes}
 use Rattle.scheme.specs.Oil.{square-pos, last-digit, entryAt}
 use Rattle.scheme.specs.Coefficients.{leftSum, rightSum, coefficientOf, coefficientAt, left-by-powers, right-by-powers}
-use Rattle.terms.specs.Places.{index-lt}
+use Rattle.streams.specs.TermPlaces.{index-lt}
 use Rattle.terms.specs.Terms.{equationFrom}
 use Rattle.terms.specs.FromSums.{HoldsSums, vinegar-from-sums}
 use Rattle.tables.specs.Table.{Holds}

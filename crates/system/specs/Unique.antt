@@ -10,10 +10,10 @@ use Rattle.rows.specs.PlusRows.{PlusRows, rows-unique}
 use Rattle.sets.specs.declared.Set.{Set}
 use Rattle.sets.specs.Bounds.{Bounds}
 use Rattle.matrix.specs.Matrix.{Matrix}
-use Rattle.matrix.specs.Block.{block}
+use Rattle.matrix.specs.Block.{block, blockBytes, stride}
 use Rattle.matrix.specs.RingElements.{coefficient}
 use Rattle.scheme.specs.Streams.{groupOf}
-use Rattle.partial_sums.specs.Places.{table-sizes}
+use Rattle.partial_sums.specs.SumPlaces.{table-sizes}
 use Rattle.partial_sums.specs.Unique.{table-unique}
 use Rattle.system.specs.Sides.{Sides, combinedFrom, outerRow, rowGain}
 use Rattle.system.specs.Equation.{Built}
@@ -28,7 +28,7 @@ module _ {set : Set} (bounds : Bounds set) where
 -- ---- rows that gain
 
 pub unique-add-outer : (d sides m : List ℕ) (l count : ℕ) {t u : List ℕ}
-    → PlusRows d 0 (count * l * l) (l * 5) (outerRow l sides m) t → PlusRows d 0 (count * l * l) (l * 5) (outerRow l sides m) u → t ≡ u
+    → PlusRows d 0 (count * l * l) (l * stride) (outerRow l sides m) t → PlusRows d 0 (count * l * l) (l * stride) (outerRow l sides m) u → t ≡ u
 unique-add-outer d sides m l count = rows-unique
 
 pub unique-add-rows : (d lefts rights : List ℕ) (at l count : ℕ) {t u : List ℕ}
@@ -43,5 +43,5 @@ pub unique-combined : (table abq : List ℕ) (l w row column down across group :
 unique-combined table abq l w row column down across group = unique-equation
 
 pub unique-fill-sides : (l count : ℕ) (M : ℕ → Matrix) {t u : List ℕ} → Sides l count M t → Sides l count M u
-    → (k r c : ℕ) → k < count → r < l → c < l → getD t (k * 25 + (r * 5 + c)) 0 ≡ getD u (k * 25 + (r * 5 + c)) 0
+    → (k r c : ℕ) → k < count → r < l → c < l → getD t (k * blockBytes + (r * stride + c)) 0 ≡ getD u (k * blockBytes + (r * stride + c)) 0
 unique-fill-sides l count M p q k r c hk hr hc = p .at k r c hk hr hc ∙ sym (q .at k r c hk hr hc)

@@ -5,10 +5,9 @@ ghost use lib.ListN.{length};
 ghost use Rattle.rows.specs.PlusRows.{PlusRows};
 ghost use Rattle.rows.specs.Tile.{tile};
 ghost use Rattle.matrix.specs.Matrix.{scaleM};
-ghost use Rattle.matrix.specs.Block.{block};
+ghost use Rattle.matrix.specs.Block.{block, blockBytes, stride};
 ghost use Rattle.matrix.specs.BlockRows.{blockRow};
-ghost use Rattle.matrix.specs.RingElements.{coefficient};
-ghost use Rattle.scheme.specs.Streams.{groupOf};
+ghost use Rattle.matrix.specs.Promises.{coefficients};
 ghost use Rattle.system.specs.Sides.{combinedFrom};
 use matrix::BYTES;
 use matrix::Block;
@@ -16,8 +15,8 @@ use matrix::STRIDE;
 
 // The l rows of a block, from byte 0 of sum on, gain factor times block (j, k) of a table in rows of w bytes.
 fn add_tile(sum: &mut [u8], l: usize, factor: u8, table: &[u8], w: usize, j: usize, k: usize)
-    requires { ⌜ (l ≤ 5) × ((25 ≤ length (now sum)) × (((j + 1) * l * w ≤ length (now table)) × ((k + 1) * l ≤ w))) ⌝ }
-    ensures { λ _. ⌜ PlusRows (now (sum .entry)) 0 l 5 (blockRow l (scaleM factor (tile l w (now (table .entry)) j k))) (now (sum .exit)) ⌝ }
+    requires { ⌜ (l ≤ stride) × ((blockBytes ≤ length (now sum)) × (((j + 1) * l * w ≤ length (now table)) × ((k + 1) * l ≤ w))) ⌝ }
+    ensures { λ _. ⌜ PlusRows (now (sum .entry)) 0 l stride (blockRow l (scaleM factor (tile l w (now (table .entry)) j k))) (now (sum .exit)) ⌝ }
 {
     let mut r = 0;
     while r < l {
@@ -26,7 +25,7 @@ fn add_tile(sum: &mut [u8], l: usize, factor: u8, table: &[u8], w: usize, j: usi
     }
 }
 
-// The sum over x below l of coefficient x of a group of the ABQ stream times block (row + x·down, column + x·across) of a table in rows of w bytes.
+// The sum over x below l of coefficient q(x) times block (row + x·down, column + x·across) of a table in rows of w bytes.
 pub fn combined(
     table: &[u8],
     l: usize,
@@ -35,17 +34,16 @@ pub fn combined(
     column: usize,
     down: usize,
     across: usize,
-    abq: &[u8],
-    group: usize,
+    q: [u8; STRIDE],
 ) -> Block
-    requires { ⌜ (l ≤ 5) × ((group + 1) * l ≤ 2 * length (now abq)) ⌝ }
+    requires { ⌜ l ≤ stride ⌝ }
     requires { ⌜ ((x : ℕ) → x < l → ((row + x * down + 1) * l * w ≤ length (now table)) × ((column + x * across + 1) * l ≤ w)) ⌝ }
-    ensures { λ r. ⌜ r ≡ block l (combinedFrom l (coefficient l (groupOf l (now (abq .entry)) group)) (now (table .entry)) w row column down across) ⌝ }
+    ensures { λ r. ⌜ r ≡ block l (combinedFrom l (coefficients q) (now (table .entry)) w row column down across) ⌝ }
 {
     let mut sum = [0u8; BYTES];
     let mut x = 0;
     while x < l {
-        let factor = terms::coefficient_at(abq, l, group, x);
+        let factor = q[x];
         add_tile(
             &mut sum,
             l,

@@ -4,16 +4,16 @@ ghost use mathlib.Core.Path.{_≡_};
 ghost use Prim.Native.Nat.{ℕ, _+_, _*_, _<_, _≤_};
 ghost use lib.ListN.{length};
 ghost use Rattle.rows.specs.PlusRows.{PlusRows};
-ghost use Rattle.matrix.specs.Block.{view};
-ghost use Rattle.matrix.specs.RingElements.{coefficient};
-ghost use Rattle.scheme.specs.Streams.{groupOf};
+ghost use Rattle.matrix.specs.Block.{view, blockBytes, stride};
+ghost use Rattle.matrix.specs.Promises.{coefficients};
+ghost use Rattle.sets.specs.Sets.{mostRow};
 ghost use Rattle.system.specs.Sides.{Sides, sideOf, outerRow, cellGain, rowGain};
 use super::blocks::combined;
 use matrix::BYTES;
 use matrix::Block;
 use matrix::STRIDE;
 
-// out becomes, for each k below count, the block first · (what a group of the ABQ stream combines of the table) · last; and zeros behind them.
+// out becomes, for each k below count, the block first · (what the coefficients q combine of the table) · last; and zeros behind them.
 // The left sums go down the table's block rows and by k across; the right sums go across and by k down.
 pub fn fill_sides(
     out: &mut [u8],
@@ -26,29 +26,18 @@ pub fn fill_sides(
     row: usize,
     down: usize,
     across: usize,
-    abq: &[u8],
-    group: usize,
+    q: [u8; STRIDE],
 )
-    requires { ⌜ (0 < l) × ((l ≤ 5) × (((group + 1) * l ≤ 2 * length (now abq)) × (count * 25 ≤ length (now out)))) ⌝ }
+    requires { ⌜ (0 < l) × ((l ≤ stride) × (count * blockBytes ≤ length (now out))) ⌝ }
     requires { ⌜ ((k x : ℕ) → k < count → x < l → ((row + k * across + x * down + 1) * l * w ≤ length (now table)) × ((k * down + x * across + 1) * l ≤ w)) ⌝ }
     ensures { λ _. ⌜ Sides l count
-        (sideOf l (view first) (coefficient l (groupOf l (now (abq .entry)) group)) (now (table .entry)) w row down across (view last))
+        (sideOf l (view first) (coefficients q) (now (table .entry)) w row down across (view last))
         (now (out .exit)) × (length (now (out .exit)) ≡ length (now (out .entry))) ⌝ }
 {
     rows::clear(out);
     let mut k = 0;
     while k < count {
-        let middle = combined(
-            table,
-            l,
-            w,
-            row + k * across,
-            k * down,
-            down,
-            across,
-            abq,
-            group,
-        );
+        let middle = combined(table, l, w, row + k * across, k * down, down, across, q);
         let right = matrix::product(l, middle, last);
         let side = matrix::product(l, first, right);
         rows::add_scaled(out, k * BYTES, &side, 0, BYTES, 1);
@@ -58,9 +47,9 @@ pub fn fill_sides(
 
 // Row (k·l + r)·l + y of the products, in rows of l·5 bytes, gains the entry (r, y) of block k of the sides times the l rows of the block m.
 pub fn add_outer(products: &mut [u8], l: usize, count: usize, sides: &[u8], m: &[u8])
-    requires { ⌜ (0 < l) × ((l ≤ 5) × (count * l * l * (l * 5) ≤ length (now products))) ⌝ }
-    requires { ⌜ (count * 25 ≤ length (now sides)) × (25 ≤ length (now m)) ⌝ }
-    ensures { λ _. ⌜ PlusRows (now (products .entry)) 0 (count * l * l) (l * 5) (outerRow l (now (sides .entry)) (now (m .entry))) (now (products .exit)) ⌝ }
+    requires { ⌜ (0 < l) × ((l ≤ stride) × (count * l * l * (l * stride) ≤ length (now products))) ⌝ }
+    requires { ⌜ (count * blockBytes ≤ length (now sides)) × (blockBytes ≤ length (now m)) ⌝ }
+    ensures { λ _. ⌜ PlusRows (now (products .entry)) 0 (count * l * l) (l * stride) (outerRow l (now (sides .entry)) (now (m .entry))) (now (products .exit)) ⌝ }
 {
     let width = l * STRIDE;
     let total = count * l * l;
@@ -85,8 +74,8 @@ fn add_row(
     r: usize,
     c: usize,
 )
-    requires { ⌜ (at + count * l * l ≤ length (now g)) × ((r < l) × ((c < l) × (l ≤ 5))) ⌝ }
-    requires { ⌜ (count * l * l * (l * 5) ≤ length (now lefts)) × (count * l * l * (l * 5) ≤ length (now rights)) ⌝ }
+    requires { ⌜ (at + count * l * l ≤ length (now g)) × ((r < l) × ((c < l) × (l ≤ stride))) ⌝ }
+    requires { ⌜ (count * l * l * (l * stride) ≤ length (now lefts)) × (count * l * l * (l * stride) ≤ length (now rights)) ⌝ }
     ensures { λ _. ⌜ PlusRows (now (g .entry)) at (count * l) l (cellGain l (now (lefts .entry)) (now (rights .entry)) r c) (now (g .exit)) ⌝ }
 {
     let width = l * STRIDE;
@@ -103,8 +92,8 @@ fn add_row(
 
 // The l·l rows of one equation, in rows of count·l·l + 1 bytes from byte `at` on, gain what the products of all its terms give. The last byte of each row stays.
 pub fn add_rows(g: &mut [u8], at: usize, l: usize, count: usize, lefts: &[u8], rights: &[u8])
-    requires { ⌜ (at + l * l * (count * l * l + 1) ≤ length (now g)) × ((0 < l) × ((l ≤ 5) × (count * l * l < 1000))) ⌝ }
-    requires { ⌜ (count * l * l * (l * 5) ≤ length (now lefts)) × (count * l * l * (l * 5) ≤ length (now rights)) ⌝ }
+    requires { ⌜ (at + l * l * (count * l * l + 1) ≤ length (now g)) × ((0 < l) × ((l ≤ stride) × (count * l * l ≤ mostRow))) ⌝ }
+    requires { ⌜ (count * l * l * (l * stride) ≤ length (now lefts)) × (count * l * l * (l * stride) ≤ length (now rights)) ⌝ }
     ensures { λ _. ⌜ PlusRows (now (g .entry)) at (l * l) (count * l * l + 1)
         (rowGain l count (now (lefts .entry)) (now (rights .entry))) (now (g .exit)) ⌝ }
 {

@@ -1,5 +1,5 @@
 -- Bytes copied to places at equal distances, and so the blocks of a stream, as they are laid element after element, into rows of blocks: entry (r, c) of all
--- blocks is one such column. Rests on Laid and Sums.
+-- blocks is one such column. Rests on streams' Laid and on Sums.
 use mathlib.Core.Path.{_≡_, refl, sym, ap, _∙_}
 use mathlib.Core.List.{List}
 use mathlib.Core.Logic.{_≢_}
@@ -14,7 +14,7 @@ use Rattle.ground.specs.Place.{row-fits}
 use Rattle.scheme.specs.Streams.{blockOf}
 use Rattle.tables.specs.Gains.{blocksRow}
 use Rattle.tables.specs.Sums.{HasRows}
-use Rattle.tables.specs.Laid.{Laid}
+use Rattle.streams.specs.Laid.{Laid}
 
 -- t is d with f k at place at + k·stride, for each k below count
 pub record Column (d : List ℕ) (at stride count : ℕ) (f : ℕ → ℕ) (t : List ℕ) : Type 0 where

@@ -1,8 +1,6 @@
-pub mod Rooms
-pub mod Numbers
 pub mod Table
 pub mod Gains
-pub mod Laid
+pub mod AddingBlocks
 pub mod Entries
 pub mod Sums
 pub mod Columns

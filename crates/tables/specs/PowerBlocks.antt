@@ -10,7 +10,7 @@ use lib.ListN.{length, getD}
 use Rattle.field.specs.Field.{mul}
 use Rattle.field.specs.Laws.{one-mul}
 use Rattle.matrix.specs.RingElements.{powerS}
-use Rattle.matrix.specs.Block.{view, block, view-block}
+use Rattle.matrix.specs.Block.{view, block, view-block, stride}
 use Rattle.rows.specs.Plus.{Plus, plus-cong}
 use Rattle.rows.specs.PlusRows.{PlusRows, rows-none, rows-cong}
 use Rattle.rows.specs.Zero.{zeros}
@@ -19,7 +19,7 @@ use Rattle.tables.specs.Table.{Filled, filled-rows}
 use Rattle.tables.specs.RingRows.{power-lt}
 
 -- once row r of the block of S to the p
-pub power-gains : (l p : ℕ) {r : ℕ} {b d t : List ℕ} {at from : ℕ} → l ≤ 5 → b ≡ block l (powerS l p) → r < l → from ≡ r * 5
+pub power-gains : (l p : ℕ) {r : ℕ} {b d t : List ℕ} {at from : ℕ} → l ≤ stride → b ≡ block l (powerS l p) → r < l → from ≡ r * stride
     → Plus d at l (λ c. mul 1 (getD b (from + c) 0)) t → Plus d at l (powerS l p r) t
 unfolding view
 power-gains l p {r} small b-is hr from-is =

@@ -1,10 +1,9 @@
--- No second outcome meets a contract of this crate: every lent buffer is fixed by what went in. Of what `lay_blocks` and `load_blocks` leave, the blocks
--- are fixed, and nothing else is read. Rests on rows' Plus and PlusRows, on Filled and on Unpacked.
-use mathlib.Core.Path.{_≡_, refl, sym, _∙_}
+-- No second outcome meets a contract of this crate: every lent buffer is fixed by what went in.
+-- Rests on rows' Plus and PlusRows, on Filled and on Unpacked.
+use mathlib.Core.Path.{_≡_, refl}
 use mathlib.Core.List.{List}
-use Prim.Native.Nat.{ℕ, _+_, _*_, _<_}
+use Prim.Native.Nat.{ℕ, _+_, _*_}
 use native.Mathlib.Omega.{arith}
-use lib.ListN.{getD}
 use Rattle.sets.specs.declared.Set.{Set}
 use Rattle.matrix.specs.RingElements.{powerS}
 use Rattle.scheme.specs.Streams.{T12}
@@ -12,15 +11,10 @@ use Rattle.scheme.specs.Regroup.{powerTimes}
 use Rattle.rows.specs.Plus.{Plus, plus-unique}
 use Rattle.rows.specs.PlusRows.{PlusRows, rows-unique}
 use Rattle.words.specs.Multiples.{Multiples}
-use Rattle.tables.specs.Numbers.{Starts}
 use Rattle.tables.specs.Table.{Filled, filled-unique}
 use Rattle.tables.specs.Gains.{blocksRow, productRow}
 use Rattle.tables.specs.Unpacked.{Unpacked, unpacked-unique, listOf}
-use Rattle.tables.specs.Laid.{Laid}
 use Rattle.tables.specs.Sums.{transposedGain, timesGain, rowsOf, leftGain}
-
-pub unique-number-of-row : {blocks number count n m : ℕ} → Starts blocks number count n → Starts blocks number count m → n ≡ m
-unique-number-of-row a b = a .is ∙ sym (b .is)
 
 pub unique-add-block-row : (d stream : List ℕ) (at number l r count : ℕ) {t u : List ℕ} → Plus d at (count * l) (blocksRow l stream number r) t
     → Plus d at (count * l) (blocksRow l stream number r) u → t ≡ u
@@ -59,8 +53,3 @@ unique-add-times d scalars src at n m count = rows-unique
 pub unique-add-left : (d x stream : List ℕ) (at l v m number count : ℕ) {t u : List ℕ}
     → PlusRows d at m (count * l) (leftGain l v x m stream number count) t → PlusRows d at m (count * l) (leftGain l v x m stream number count) u → t ≡ u
 unique-add-left d x stream at l v m number count = rows-unique
-
-pub unique-lay-blocks : (stream : List ℕ) (l number count : ℕ) {place place′ : ℕ} {flat flat′ : List ℕ} → Laid l count stream number place flat
-    → Laid l count stream number place′ flat′ → (k r c : ℕ) → k < count → r < l → c < l
-    → getD flat (place + r * l + c + k * (l * l)) 0 ≡ getD flat′ (place′ + r * l + c + k * (l * l)) 0
-unique-lay-blocks stream l number count p q k r c hk hr hc = p .entry k r c hk hr hc ∙ sym (q .entry k r c hk hr hc)

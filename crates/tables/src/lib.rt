@@ -1,15 +1,10 @@
 // Tables of bytes that key generation, the verdict and signing share: the powers of S, the private matrix T12, the powers of S times a list of matrices,
 // rows of products of a stream's blocks with such a table, and products of whole tables. A table with rows of w bytes holds block (j, k) at rows j·l .. and columns k·l .. .
-mod numbers;
 mod powers;
 mod private;
 mod products;
 mod sums;
 
-pub use numbers::p11_number;
-pub use numbers::p12_number;
-pub use numbers::p21_number;
-pub use numbers::p22_number;
 pub use powers::power_table;
 pub use powers::powers_of_s;
 pub use private::private_table;
@@ -23,11 +18,6 @@ ghost use lib.ListN.{length};
 ghost use Rattle.rows.specs.Plus.{Plus};
 ghost use Rattle.tables.specs.Gains.{rowStart, blocksRow};
 ghost use Rattle.tables.specs.Unpacked.{Unpacked};
-
-// How many bytes a caller's table takes for the largest set: the powers of S, and T12 (specs/Rooms.antt).
-pub const POWERS: usize = 64;
-
-pub const PRIVATE: usize = 12000;
 
 // The number of the first element of row r of a stream's block.
 fn row_start(l: usize, number: usize, r: usize) -> usize

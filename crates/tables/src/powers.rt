@@ -2,6 +2,7 @@
 ghost use mathlib.Core.Path.{_≡_};
 ghost use Prim.Native.Nat.{ℕ, _+_, _*_, _<_, _≤_};
 ghost use lib.ListN.{length};
+ghost use Rattle.matrix.specs.Block.{stride};
 ghost use Rattle.rows.specs.Plus.{Plus};
 ghost use Rattle.rows.specs.PlusRows.{PlusRows};
 ghost use Rattle.matrix.specs.RingElements.{powerS};
@@ -14,7 +15,7 @@ use matrix::STRIDE;
 
 // sp[at..] gains S to the p, in l rows of l bytes.
 fn add_power(sp: &mut [u8], at: usize, l: usize, p: usize)
-    requires { ⌜ (l ≤ 5) × (at + l * l ≤ length (now sp)) ⌝ }
+    requires { ⌜ (l ≤ stride) × (at + l * l ≤ length (now sp)) ⌝ }
     ensures { λ _. ⌜ PlusRows (now (sp .entry)) at l l (powerS l p) (now (sp .exit)) ⌝ }
 {
     let power = matrix::s_power(l, p);
@@ -27,7 +28,7 @@ fn add_power(sp: &mut [u8], at: usize, l: usize, p: usize)
 
 // sp becomes the table of the powers of S: rows of l bytes, block (p, 0) is S to the p for p < l; and zeros behind it.
 pub fn powers_of_s(sp: &mut [u8], l: usize)
-    requires { ⌜ (l ≤ 5) × (l * l * l ≤ length (now sp)) ⌝ }
+    requires { ⌜ (l ≤ stride) × (l * l * l ≤ length (now sp)) ⌝ }
     ensures { λ _. ⌜ Filled l l l 1 (λ p k. powerS l p) (now (sp .entry)) (now (sp .exit)) ⌝ }
 {
     rows::clear(sp);

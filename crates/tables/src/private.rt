@@ -18,7 +18,7 @@ fn private_part(t: &mut [u8], at: usize, stream: &[u8], l: usize, group: usize, 
 {
     let mut p = 0;
     while p < l {
-        let scalar = terms::coefficient_at(stream, l, group, p);
+        let scalar = streams::coefficient_at(stream, l, group, p);
         rows::add_scaled(t, at, sp, (p * l + x) * l, l, scalar);
         p += 1;
     }

@@ -2,27 +2,12 @@
 ghost use mathlib.Core.List.{List};
 ghost use Prim.Native.Nat.{ℕ, _+_, _*_, _<_, _≤_};
 ghost use lib.ListN.{length};
+ghost use Rattle.sets.specs.Rooms.{vinegarRoom};
 ghost use Rattle.rows.specs.PlusRows.{PlusRows};
 ghost use Rattle.words.specs.Multiples.{Multiples};
 ghost use Rattle.sets.specs.Sets.{mostL};
 ghost use Rattle.tables.specs.Gains.{productRow};
-ghost use Rattle.tables.specs.Laid.{Laid};
-
-// Room for the elements of v blocks, one to a byte, from place 0 or 1 on, and for one block more.
-pub const FLAT: usize = 1216;
-
-// Lays the elements of count blocks of the stream into flat, one to a byte, from the place on that is answered: 1 where the first block begins in the middle of a byte.
-pub fn lay_blocks(flat: &mut [u8], stream: &[u8], number: usize, l: usize, count: usize) -> usize
-    requires { ⌜ ((number + count) * (l * l) ≤ 2 * length (now stream)) × ((count * (l * l) + 2 ≤ length (now flat)) × ((0 < count) × (0 < l))) ⌝ }
-    ensures { λ place. ⌜ Laid l count (now (stream .entry)) number place (now (flat .exit)) ⌝ }
-{
-    let size = l * l;
-    let from = number * size;
-    let start = from / 2;
-    let end = (number + count) * size;
-    words::spread(flat, stream, start, end / 2 + end % 2 - start);
-    from % 2
-}
+use sets::FLAT_ROOM;
 
 // The l rows of n bytes from byte `at` on gain the sum over k < count of block number + k of the stream times block row first + k of a table in rows of n bytes.
 // `multiples` holds the multiples of that table's rows.
@@ -38,12 +23,12 @@ pub fn add_blocks(
     first: usize,
 )
     requires { ⌜ (at + l * n ≤ length (now dst)) × ((number + count) * (l * l) ≤ 2 * length (now stream)) ⌝ }
-    requires { ⌜ ((first + count) * l * 8 ≤ length (now multiples)) × ((count * (l * l) ≤ 1200) × ((0 < count) × ((0 < l) × (l ≤ mostL)))) ⌝ }
+    requires { ⌜ ((first + count) * l * 8 ≤ length (now multiples)) × ((count * (l * l) ≤ vinegarRoom) × ((0 < count) × ((0 < l) × (l ≤ mostL)))) ⌝ }
     ensures { λ _. ⌜ ((src : List ℕ) → Multiples n ((first + count) * l) src (now (multiples .entry))
         → PlusRows (now (dst .entry)) at l n (λ r. productRow l (now (stream .entry)) number r count src n first) (now (dst .exit))) ⌝ }
 {
-    let mut flat = [0u8; FLAT];
-    let place = lay_blocks(&mut flat, stream, number, l, count);
+    let mut flat = [0u8; FLAT_ROOM];
+    let place = streams::lay_blocks(&mut flat, stream, number, l, count);
     let mut r = 0;
     while r < l {
         let w = words::product_word(multiples, first * l, l, &flat, place + r * l, count);

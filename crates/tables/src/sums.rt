@@ -2,15 +2,13 @@
 ghost use mathlib.Core.Path.{_≡_};
 ghost use Prim.Native.Nat.{ℕ, _+_, _*_, _<_, _≤_};
 ghost use lib.ListN.{length, getD};
+ghost use Rattle.sets.specs.Rooms.{vinegarRoom};
 ghost use Rattle.rows.specs.PlusRows.{PlusRows};
 ghost use Rattle.tables.specs.Gains.{blocksRow};
 ghost use Rattle.tables.specs.Columns.{Column};
 ghost use Rattle.tables.specs.Sums.{HasRows, transposedGain, timesGain, rowsOf, leftGain};
-use super::products::FLAT;
-use super::products::lay_blocks;
-
-// Room for l rows of v blocks, or of o blocks.
-const BUFFER: usize = 1200;
+use sets::FLAT_ROOM;
+use sets::VINEGAR_ROOM;
 
 // The m rows of n bytes from byte `at` on gain count rows of m scalars from byte `place` on, transposed, times the count rows of src.
 pub fn add_transposed(
@@ -78,11 +76,11 @@ fn copy_column(
 // of all of them is copied at once: the entries of one row of one block are too few to go by.
 fn load_blocks(dst: &mut [u8], l: usize, stream: &[u8], number: usize, count: usize)
     requires { ⌜ (l * (count * l) ≤ length (now dst)) × (((number + count) * (l * l) ≤ 2 * length (now stream)) × (0 < l)) ⌝ }
-    requires { ⌜ (l * (count * l) ≤ 1200) × (0 < count) ⌝ }
+    requires { ⌜ (l * (count * l) ≤ vinegarRoom) × (0 < count) ⌝ }
     ensures { λ _. ⌜ HasRows l (count * l) (blocksRow l (now (stream .entry)) number) (now (dst .exit)) ⌝ }
 {
-    let mut flat = [0u8; FLAT];
-    let place = lay_blocks(&mut flat, stream, number, l, count);
+    let mut flat = [0u8; FLAT_ROOM];
+    let place = streams::lay_blocks(&mut flat, stream, number, l, count);
     let n = count * l;
     let size = l * l;
     let mut e = 0;
@@ -107,11 +105,11 @@ pub fn add_left(
     count: usize,
 )
     requires { ⌜ (at + m * (count * l) ≤ length (now dst)) × ((v * l * m ≤ length (now x)) × ((number + v * count) * (l * l) ≤ 2 * length (now stream))) ⌝ }
-    requires { ⌜ (l * (count * l) ≤ 1200) × ((0 < l) × (0 < count)) ⌝ }
+    requires { ⌜ (l * (count * l) ≤ vinegarRoom) × ((0 < l) × (0 < count)) ⌝ }
     ensures { λ _. ⌜ PlusRows (now (dst .entry)) at m (count * l) (leftGain l v (now (x .entry)) m (now (stream .entry)) number count) (now (dst .exit)) ⌝ }
 {
     let n = count * l;
-    let mut buffer = [0u8; BUFFER];
+    let mut buffer = [0u8; VINEGAR_ROOM];
     let mut j = 0;
     while j < v {
         load_blocks(&mut buffer, l, stream, number + j * count, count);

@@ -12,7 +12,7 @@ use Rattle.scheme.specs.Streams.{A, B, P11}
 use Rattle.scheme.specs.Maps.{sumM, matrixIndex, PWith, publicMapWith, vinegarPart}
 use Rattle.scheme.specs.Regroup.{q1Of, q2Of, powerSums, gathered, publicMap-regroup, vinegarPart-regroup}
 use Rattle.sets.specs.Bounds.{Bounds}
-use Rattle.terms.specs.Places.{index-lt}
+use Rattle.streams.specs.TermPlaces.{index-lt}
 use Rattle.terms.specs.Terms.{gatheredFrom, termFrom, equationFrom}
 
 -- the table holds the power sums of the first `count` of the matrices M

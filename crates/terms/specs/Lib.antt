@@ -1,11 +1,8 @@
-pub mod Places
 pub mod Terms
-pub mod Reading
-pub mod Refusal
-pub mod Coefficient
 pub mod Gathering
 pub mod Adding
 pub mod FromSums
+pub mod SumsPlaces
 pub mod Gain
 pub mod Accumulate
 pub mod Unique

@@ -9,6 +9,9 @@ use Rattle.rows.specs.Tile.{tile}
 use Rattle.sets.specs.declared.Set.{Set}
 use Rattle.sets.specs.Sets.{terms}
 use Rattle.matrix.specs.Matrix.{Matrix, mulM, scaleM}
+use Rattle.matrix.specs.Block.{view}
+use Rattle.matrix.specs.Promises.{coefficients}
+use Rattle.streams.specs.declared.Term.{Term}
 use Rattle.scheme.specs.Streams.{A, B}
 use Rattle.scheme.specs.Maps.{sumM, matrixIndex}
 use Rattle.scheme.specs.Regroup.{q1Of, q2Of}
@@ -16,6 +19,10 @@ use Rattle.scheme.specs.Regroup.{q1Of, q2Of}
 -- what stands between A and B: the sum over x, y < l of a(x)·b(y) times block (index·l + x, y) of the table
 unfoldable pub gatheredFrom : (l : ℕ) (a b : ℕ → ℕ) (sums : List ℕ) (index : ℕ) → Matrix
 gatheredFrom l a b sums index = sumM l (λ x. sumM l (λ y. scaleM (a x) (scaleM (b y) (tile l (l * l) sums (index * l + x) y))))
+
+-- the value of a term that was read
+unfoldable pub termWith : (l : ℕ) (t : Term) (sums : List ℕ) → Matrix
+termWith l t sums = mulM l (view (t .a)) (mulM l (gatheredFrom l (coefficients (t .q1)) (coefficients (t .q2)) sums (t .index)) (view (t .b)))
 
 -- term alpha of equation i
 unfoldable pub termFrom : (set : Set) (abq sums : List ℕ) (i alpha : ℕ) → Matrix

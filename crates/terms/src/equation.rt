@@ -1,59 +1,47 @@
-// Equation i of a map from a table of its power sums: the sum over alpha of A · (what stands between) · B. A and B are made once for each (i, alpha).
+// Equation i of a map from a table of its power sums: the sum over alpha of A · (what stands between) · B.
 ghost use mathlib.Core.Path.{_≡_};
-ghost use mathlib.Core.Bool.{true};
-ghost use Prim.Native.Nat.{_*_, _<_, _≤_};
+ghost use Prim.Native.Nat.{_+_, _*_, _<_, _≤_};
 ghost use lib.ListN.{length};
+ghost use Rattle.sets.specs.Sets.{mostL};
 ghost use Rattle.sets.specs.Bounds.{Bounds};
-ghost use Rattle.sets.specs.Sets.{abqBytes};
 ghost use Rattle.matrix.specs.Block.{block};
-ghost use Rattle.scheme.specs.Maps.{allInvertible};
-ghost use Rattle.terms.specs.Places.{Term};
-ghost use Rattle.terms.specs.Terms.{termFrom, equationFrom};
-use super::blocks::invertible_at;
+ghost use Rattle.streams.specs.TermOf.{AbqLent};
+ghost use Rattle.terms.specs.Terms.{termWith, equationFrom};
 use super::gathering::gathered_block;
-use super::places::a_number;
-use super::places::b_number;
-use super::places::matrix_index;
-use super::places::q1_number;
-use super::places::q2_number;
-use super::places::term_count;
 use matrix::BYTES;
 use matrix::Block;
 use sets::Set;
+use streams::Term;
 
-// Term alpha of equation i. No block of the ABQ stream is refused, so A and B are there.
-fn term_block(set: Set, abq: &[u8], sums: &[u8], i: usize, alpha: usize) -> Block
-    requires { ⌜ Term set i alpha ⌝ }
-    requires { ⌜ (length (now abq) ≡ abqBytes set) × (allInvertible set (now abq) ≡ true) ⌝ }
-    requires { ⌜ set .o * (set .l * set .l) * (set .l * set .l) ≤ length (now sums) ⌝ }
-    ensures { λ r. ⌜ r ≡ block (set .l) (termFrom set (now (abq .entry)) (now (sums .entry)) i alpha) ⌝ }
+// A term's value, from the table of power sums.
+pub fn term_block(l: usize, term: Term, sums: &[u8]) -> Block
+    requires { ⌜ (l ≤ mostL) × ((term .index + 1) * (l * l) * (l * l) ≤ length (now sums)) ⌝ }
+    ensures { λ r. ⌜ r ≡ block l (termWith l term (now (sums .entry))) ⌝ }
 {
-    let l = set.l;
-    let made_a = invertible_at(abq, l, a_number(set, i, alpha));
-    let made_b = invertible_at(abq, l, b_number(set, i, alpha));
-    let index = matrix_index(set, i, alpha);
-    let group1 = q1_number(set, i, alpha);
-    let group2 = q2_number(set, i, alpha);
-    let middle = gathered_block(sums, l, index, abq, group1, group2);
-    let a = made_a.block;
-    let b = made_b.block;
+    let a = term.a;
+    let b = term.b;
+    let q1 = term.q1;
+    let q2 = term.q2;
+    let middle = gathered_block(sums, l, term.index, q1, q2);
     let right = matrix::product(l, middle, b);
     matrix::product(l, a, right)
 }
 
+// The sum over alpha: each term is read once.
 pub fn equation_block(set: Set, abq: &[u8], sums: &[u8], i: usize) -> Block
     requires { ⌜ Bounds set × (i < set .o) ⌝ }
-    requires { ⌜ (length (now abq) ≡ abqBytes set) × (allInvertible set (now abq) ≡ true) ⌝ }
+    requires { ⌜ AbqLent set (now abq) ⌝ }
     requires { ⌜ set .o * (set .l * set .l) * (set .l * set .l) ≤ length (now sums) ⌝ }
     ensures { λ r. ⌜ r ≡ block (set .l) (equationFrom set (now (abq .entry)) (now (sums .entry)) i) ⌝ }
 {
     let l = set.l;
-    let count = term_count(set);
+    let count = sets::terms(set);
     let mut sum = [0; BYTES];
     let mut alpha = 0;
     while alpha < count {
-        let term = term_block(set, abq, sums, i, alpha);
-        let more = matrix::plus(l, sum, term);
+        let term = streams::read_term(set, abq, i, alpha);
+        let value = term_block(l, term, sums);
+        let more = matrix::plus(l, sum, value);
         sum = more;
         alpha += 1;
     }

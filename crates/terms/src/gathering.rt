@@ -5,17 +5,13 @@ ghost use Prim.Native.Nat.{_+_, _*_, _≤_};
 ghost use lib.ListN.{length};
 ghost use Rattle.sets.specs.Sets.{mostL};
 ghost use Rattle.matrix.specs.Block.{block};
-ghost use Rattle.matrix.specs.RingElements.{coefficient};
-ghost use Rattle.scheme.specs.Streams.{groupOf};
+ghost use Rattle.matrix.specs.Promises.{coefficients};
 ghost use Rattle.terms.specs.Terms.{gatheredFrom};
 ghost use Rattle.terms.specs.Gathering.{foldedFrom};
-use super::coefficients::coefficients_of;
 use matrix::BYTES;
 use matrix::Block;
 use matrix::STRIDE;
-
-// Room for l rows of l·l bytes.
-const CUBE: usize = 125;
+use sets::POWERS_ROOM;
 
 // The sum over y of q2(y) times columns y·l, .. , y·l + l - 1 of l rows of l·l bytes.
 fn folded(left: &[u8], l: usize, q2: &[u8]) -> Block
@@ -31,23 +27,18 @@ fn folded(left: &[u8], l: usize, q2: &[u8]) -> Block
     out
 }
 
-// The coefficients of Q1 stand in group group1 of the ABQ stream, those of Q2 in group group2.
+// q1 and q2 hold the coefficients of Q1 and Q2 in their first l places.
 pub fn gathered_block(
     sums: &[u8],
     l: usize,
     index: usize,
-    abq: &[u8],
-    group1: usize,
-    group2: usize,
+    q1: [u8; STRIDE],
+    q2: [u8; STRIDE],
 ) -> Block
     requires { ⌜ (l ≤ mostL) × ((index + 1) * (l * l) * (l * l) ≤ length (now sums)) ⌝ }
-    requires { ⌜ ((group1 + 1) * l ≤ 2 * length (now abq)) × ((group2 + 1) * l ≤ 2 * length (now abq)) ⌝ }
-    ensures { λ b. ⌜ b ≡ block l (gatheredFrom l (coefficient l (groupOf l (now (abq .entry)) group1)) (coefficient l (groupOf l (now (abq .entry)) group2))
-        (now (sums .entry)) index) ⌝ }
+    ensures { λ b. ⌜ b ≡ block l (gatheredFrom l (coefficients q1) (coefficients q2) (now (sums .entry)) index) ⌝ }
 {
-    let q1 = coefficients_of(abq, l, group1);
-    let q2 = coefficients_of(abq, l, group2);
-    let mut left = [0u8; CUBE];
+    let mut left = [0u8; POWERS_ROOM];
     rows::add_columns(&mut left, 0, l * l * l, &q1, 0, 1, l, sums, index * l);
     folded(&left, l, &q2)
 }

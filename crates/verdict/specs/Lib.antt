@@ -1,6 +1,3 @@
-pub mod Places
-pub mod MapRows
-pub mod Sums
-pub mod Compare
 pub mod Promise
+pub mod Difference
 pub mod Unique

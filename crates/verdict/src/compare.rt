@@ -1,77 +1,31 @@
-// Every entry of every equation is compared with the target's element. The first that differs decides.
-ghost use Prim.Native.Nat.{_+_, _*_, _<_, _≤_};
+// The values of the public map against the target: the first entry that differs, if there is one. What says why a signature was not accepted uses the same search.
 ghost use mathlib.Core.Path.{_≡_};
-ghost use mathlib.Core.Bool.{true};
-ghost use lib.ListN.{length};
-ghost use Rattle.ground.specs.Tests.{every};
-ghost use Rattle.sets.specs.Bounds.{Bounds};
-ghost use Rattle.sets.specs.Sets.{publicBytes, abqBytes, targetBytes, keyBytes, signatureBytes};
-ghost use Rattle.scheme.specs.Maps.{allInvertible, meets};
+ghost use Prim.Native.Nat.{_*_, _≤_};
+ghost use lib.ListN.{length, getD};
+ghost use Rattle.packing.specs.Packing.{element};
 ghost use Rattle.scheme.specs.Verdict.{accepted};
-ghost use Rattle.terms.specs.Terms.{equationFrom};
-ghost use Rattle.verdict.specs.Compare.{equalAt, rowEqual};
-use super::sums::all_sums;
-use super::sums::signature_table;
-use matrix::Block;
+ghost use Rattle.checks.specs.Lent.{VerdictLent};
+ghost use Rattle.verdict.specs.Difference.{FirstDifference};
+use sets::LIST_ROOM;
+use sets::MOST_ROW;
 use sets::Set;
 
-// Room for the powers of S times the signature's matrices.
-const TABLE: usize = 5440;
-
-// Room for the power sums of every matrix index.
-const SUMS: usize = 2560;
-
-// Row r of an equation's block equals row r of block i of the target.
-fn row_equals(block: Block, target: &[u8], l: usize, i: usize, r: usize) -> bool
-    requires { ⌜ (l ≤ 5) × (r < l) × ((i + 1) * (l * l) ≤ 2 * length (now target)) ⌝ }
-    ensures { λ e. ⌜ e ≡ every l (equalAt l block (now (target .entry)) i r) ⌝ }
+// The number of the first of n values that is not the target's element, or n where there is none.
+pub fn first_difference(values: &[u8], target: &[u8], n: usize) -> usize
+    requires { ⌜ (n ≤ length (now values)) × (n ≤ 2 * length (now target)) ⌝ }
+    ensures { λ r. ⌜ FirstDifference n (λ e. getD (now (values .entry)) e 0) (element (now (target .entry))) r ⌝ }
 {
-    let mut c = 0;
-    while c < l {
-        let expected = packing::element(target, i * (l * l) + (r * l + c));
-        if matrix::entry(block, r, c) != expected {
-            return false;
+    let mut e = 0;
+    while e < n {
+        if values[e] != packing::element(target, e) {
+            return e;
         }
-        c += 1;
+        e += 1;
     }
-    true
+    n
 }
 
-// The whole block equals block i of the target.
-fn equals_target(block: Block, target: &[u8], l: usize, i: usize) -> bool
-    requires { ⌜ (l ≤ 5) × ((i + 1) * (l * l) ≤ 2 * length (now target)) ⌝ }
-    ensures { λ e. ⌜ e ≡ every l (rowEqual l block (now (target .entry)) i) ⌝ }
-{
-    let mut r = 0;
-    while r < l {
-        if !row_equals(block, target, l, i, r) {
-            return false;
-        }
-        r += 1;
-    }
-    true
-}
-
-// Every equation from the table of power sums equals the target's.
-fn all_equal(set: Set, abq: &[u8], sums: &[u8], target: &[u8]) -> bool
-    requires { ⌜ Bounds set × (set .o * (set .l * set .l) * (set .l * set .l) ≤ length (now sums)) ⌝ }
-    requires { ⌜ (length (now abq) ≡ abqBytes set) × (allInvertible set (now abq) ≡ true) × (length (now target) ≡ targetBytes set) ⌝ }
-    ensures { λ e. ⌜ e ≡ meets set (equationFrom set (now (abq .entry)) (now (sums .entry))) (now (target .entry)) ⌝ }
-{
-    let l = set.l;
-    let o = set.o;
-    let mut i = 0;
-    while i < o {
-        let equation = terms::equation_block(set, abq, sums, i);
-        if !equals_target(equation, target, l, i) {
-            return false;
-        }
-        i += 1;
-    }
-    true
-}
-
-// The public map of the key meets the target at the signature.
+// The public map of the key meets the target at the signature: no entry differs.
 pub fn accepts(
     set: Set,
     public: &[u8],
@@ -80,13 +34,13 @@ pub fn accepts(
     key: &[u8],
     signature: &[u8],
 ) -> bool
-    requires { ⌜ Bounds set × (length (now public) ≡ publicBytes set) × (length (now abq) ≡ abqBytes set) × (allInvertible set (now abq) ≡ true) ⌝ }
-    requires { ⌜ (length (now target) ≡ targetBytes set) × (length (now key) ≡ keyBytes set) × (length (now signature) ≡ signatureBytes set) ⌝ }
+    requires { ⌜ VerdictLent set (now public) (now abq) (now target) (now key) (now signature) ⌝ }
     ensures { λ e. ⌜ e ≡ accepted set (now (public .entry)) (now (abq .entry)) (now (key .entry)) (now (signature .entry)) (now (target .entry)) ⌝ }
 {
-    let mut w = [0u8; TABLE];
-    signature_table(&mut w, set, signature);
-    let mut sums = [0u8; SUMS];
-    all_sums(&mut sums, set, public, key, &w);
-    all_equal(set, abq, &sums, target)
+    let mut list = [0u8; LIST_ROOM];
+    tables::unpack_all(&mut list, signature, sets::signature_count(set));
+    let mut values = [0u8; MOST_ROW];
+    public_map::evaluate(&mut values, set, public, abq, key, &list);
+    let n = sets::target_count(set);
+    first_difference(&values, target, n) == n
 }

@@ -1,5 +1,4 @@
 pub mod Words
 pub mod Multiples
 pub mod Lookups
-pub mod Spread
 pub mod Unique

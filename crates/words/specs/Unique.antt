@@ -11,7 +11,6 @@ use Rattle.rows.specs.Plus.{Plus, plus-unique}
 use Rattle.words.specs.Words.{nibble}
 use Rattle.words.specs.Multiples.{Multiplied}
 use Rattle.words.specs.Lookups.{blockLookups}
-use Rattle.words.specs.Spread.{Spread}
 
 pub unique-multiply : {n count : ℕ} {src d t u : List ℕ} → Multiplied n count src d t → Multiplied n count src d u → t ≡ u
 unique-multiply {count = count} {t = t} {u} p q =
@@ -32,8 +31,3 @@ unique-product-word table scalars first l place count p q = p ∙ sym q
 
 pub unique-add-word : (w : ℕ) {d t u : List ℕ} {at n : ℕ} → Plus d at n (nibble w) t → Plus d at n (nibble w) u → t ≡ u
 unique-add-word w p q = plus-unique p q
-
-pub unique-spread : {stream : List ℕ} {from n : ℕ} {d t u : List ℕ} → Spread stream from n d t → Spread stream from n d u → t ≡ u
-unique-spread {n = n} {t = t} {u} p q =
-    ext-getD 0 t u (p .long ∙ sym (q .long))
-    (λ e h. elim (decLt e (2 * n)) [ yes l ↦ p .elements e l ∙ sym (q .elements e l) | no l ↦ p .behind e (omega arith) ∙ sym (q .behind e (omega arith)) ])

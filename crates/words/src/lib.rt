@@ -8,7 +8,6 @@ ghost use Rattle.rows.specs.Plus.{Plus};
 ghost use Rattle.words.specs.Words.{nibble};
 ghost use Rattle.words.specs.Multiples.{factorOf, multipleOf, Multiplied};
 ghost use Rattle.words.specs.Lookups.{lookups, blockLookups};
-ghost use Rattle.words.specs.Spread.{Spread};
 
 // The word of p times row[at..at + n].
 fn multiple(row: &[u8], at: usize, n: usize, p: u8) -> u64
@@ -103,19 +102,5 @@ pub fn add_word(dst: &mut [u8], at: usize, n: usize, w: u64)
         dst[at + c] ^= (rest % 16) as u8;
         rest = rest / 16;
         c += 1;
-    }
-}
-
-// The elements of n bytes of a packed stream, from byte `from` on, become dst[0..2·n], one to a byte.
-pub fn spread(dst: &mut [u8], stream: &[u8], from: usize, n: usize)
-    requires { ⌜ (2 * n ≤ length (now dst)) × (from + n ≤ length (now stream)) ⌝ }
-    ensures { λ _. ⌜ Spread (now (stream .entry)) from n (now (dst .entry)) (now (dst .exit)) ⌝ }
-{
-    let mut k = 0;
-    while k < n {
-        let b = stream[from + k];
-        dst[2 * k] = b & 15;
-        dst[2 * k + 1] = b >> 4;
-        k += 1;
     }
 }

@@ -4,14 +4,8 @@ use borrow.Author.Needs.{needs}
 use Rattle.field.proofs.twice.Statement.{statement}
 use Rattle.field.proofs.twice.Tie as tie
 
-mul-result : tie.Need-mul-result
-mul-result c = search needs
-
-mul-result-2 : tie.Need-mul-result-2
-mul-result-2 c = search needs
-
 returns : tie.Need-returns
 returns c = twice-is (c .args .a)
 
 pub twice-spec : {M : Type 1} → statement M
-twice-spec = tie.close (tie.spec mul-result mul-result-2 returns)
+twice-spec = tie.close (tie.spec (λ c. search needs) (λ c. search needs) returns)

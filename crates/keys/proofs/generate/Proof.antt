@@ -7,13 +7,10 @@ use Rattle.ground.specs.Answers.{answerOf}
 use Rattle.ground.specs.Outcome.{writes-by}
 use Rattle.sets.specs.Bounds.{bounds}
 use Rattle.refusals.specs.Fits.{keygen-fits}
-use Rattle.scheme.specs.Verdict.{keygenRefusals}
+use Rattle.scheme.specs.Refusals.{keygenRefusals}
 use borrow.Author.Needs.{needs}
 use Rattle.keys.proofs.generate.Statement.{statement}
 use Rattle.keys.proofs.generate.Tie as tie
-
-keygen-refusal-requires : tie.Need-keygen-refusal-requires
-keygen-refusal-requires c κs = search needs
 
 write-key-requires : tie.Need-write-key-requires
 write-key-requires c κs =
@@ -21,9 +18,6 @@ write-key-requires c κs =
     let none = sym (c .before .before .keygen-refusal .ensures) ∙ c .before .if1 .taken in
     let fits = keygen-fits (args .set) (length (args .public .now)) (length (args .private .now)) (length (args .key .now)) none in
     (bounds (args .set) (fits .allowed), (fits .public, fits .private, fits .output))
-
-answer-of-requires : tie.Need-answer-of-requires
-answer-of-requires c κs = search needs
 
 same-length : tie.Need-same-length
 same-length c = ⊎-elim (λ w. ap length (w .5) ∙ w .2 .kept .0) (λ w. ap length (w .1)) (c .before .if1 .came)
@@ -39,8 +33,8 @@ pub generate-spec : {M : Type 1} → statement M
 generate-spec =
     tie.close
     (tie.spec
-    keygen-refusal-requires
+    (λ c κs. search needs)
     write-key-requires
-    answer-of-requires
+    (λ c κs. search needs)
     same-length
     returns)

@@ -2,26 +2,17 @@
 -- Nothing is asked of what the tables hold before.
 use mathlib.Core.Path.{_∙_}
 use Rattle.packing.specs.Packing.{Bytes}
-use Rattle.tables.specs.Rooms.{kept-room, powers-room, private-room, f21-room, key-room}
+use Rattle.sets.specs.Rooms.{kept-room, powers-room, private-room, f21-room, key-room}
 use Rattle.keys.specs.Elements.{key-whole}
 use borrow.Author.Needs.{needs}
 use native.Mathlib.Omega.{arith}
 use Rattle.keys.proofs.write_key.Statement.{statement}
 use Rattle.keys.proofs.write_key.Tie as tie
 
-slice-aggregate-powers-of-s : tie.Need-slice-aggregate-powers-of-s
-slice-aggregate-powers-of-s c = search needs
-
 powers-of-s-requires : tie.Need-powers-of-s-requires
 powers-of-s-requires c κs =
     let begin = c .before .before .before .before in
     (omega (arith, begin .pre .0 .limits .l-most), powers-room (begin .pre .0))
-
-slice-aggregate-private-table : tie.Need-slice-aggregate-private-table
-slice-aggregate-private-table c = search needs
-
-slice-aggregate-private-table-2 : tie.Need-slice-aggregate-private-table-2
-slice-aggregate-private-table-2 c = search needs
 
 private-table-requires : tie.Need-private-table-requires
 private-table-requires c κs =
@@ -29,15 +20,6 @@ private-table-requires c κs =
     let b = begin .pre .0 in
     let powers-of-s = c .before .before .before .powers-of-s in
     (b, ((begin .pre .1 .1, private-room b, kept-room (powers-room b) (powers-of-s .ensures .long)), powers-of-s .ensures .holds))
-
-slice-aggregate-write-elements : tie.Need-slice-aggregate-write-elements
-slice-aggregate-write-elements c = search needs
-
-slice-aggregate-write-elements-2 : tie.Need-slice-aggregate-write-elements-2
-slice-aggregate-write-elements-2 c = search needs
-
-slice-aggregate-write-elements-3 : tie.Need-slice-aggregate-write-elements-3
-slice-aggregate-write-elements-3 c = search needs
 
 write-elements-requires : tie.Need-write-elements-requires
 write-elements-requires c κs =
@@ -70,14 +52,14 @@ pub write-key-spec : {M : Type 1} → statement M
 write-key-spec =
     tie.close
     (tie.spec
-    slice-aggregate-powers-of-s
+    (λ c. search needs)
     powers-of-s-requires
-    slice-aggregate-private-table
-    slice-aggregate-private-table-2
+    (λ c. search needs)
+    (λ c. search needs)
     private-table-requires
-    slice-aggregate-write-elements
-    slice-aggregate-write-elements-2
-    slice-aggregate-write-elements-3
+    (λ c. search needs)
+    (λ c. search needs)
+    (λ c. search needs)
     write-elements-requires
     clear-spare-requires
     same-length

@@ -35,9 +35,6 @@ loop-holds c = (omega arith, rows-none)
 factor-requires : tie.Need-factor-requires Inv-loop μ-loop
 factor-requires c κs = (here (c .before), omega (arith, c .before .before .before .before .pre))
 
-add-add-scaled : tie.Need-add-add-scaled Inv-loop μ-loop
-add-add-scaled c = search needs
-
 mul-add-scaled : tie.Need-mul-add-scaled Inv-loop μ-loop
 mul-add-scaled c = omega (arith, here (c .before .before .before))
 
@@ -45,12 +42,6 @@ add-scaled-requires : tie.Need-add-scaled-requires Inv-loop μ-loop
 add-scaled-requires c κs =
     let now = c .before .before .before .before .before .before in
     (omega (arith, here now), omega (arith, c .add-scaled-arg3 .given .0, now .before .before .before .pre .0))
-
-mul-requires : tie.Need-mul-requires Inv-loop μ-loop
-mul-requires c κs = search needs
-
-add-g : tie.Need-add-g Inv-loop μ-loop
-add-g c = search needs
 
 mul-g : tie.Need-mul-g Inv-loop μ-loop
 mul-g c = omega (arith, here (turn c))
@@ -64,12 +55,6 @@ slice-read-g c = omega (arith, c .before .before .before .before .add-scaled .ke
 slice-write-g : tie.Need-slice-write-g Inv-loop μ-loop
 slice-write-g c = omega (arith, c .before .before .before .before .add-scaled .kept .0, here (turn (c .before)))
 
-add-r : tie.Need-add-r Inv-loop μ-loop
-add-r c = search needs
-
-loop-less : tie.Need-loop-less Inv-loop μ-loop
-loop-less c = search needs
-
 loop-again : tie.Need-loop-again Inv-loop μ-loop
 unfolding add
 loop-again c =
@@ -80,9 +65,6 @@ loop-again c =
       cleared-next (a .n) (a .k) _ (rowAt (a .t4) (a .n)) (now .before .loop .inv .1) (added .before .before .before .before .before .factor .ensures)
           (gained (a .t4) _ (added .add-scaled .ensures) (omega (arith, here now)) _ (c .before .mul .ensures)),
     )
-
-same-length : tie.Need-same-length Inv-loop μ-loop
-same-length c = search needs
 
 returns : tie.Need-returns Inv-loop μ-loop
 returns c =
@@ -97,17 +79,17 @@ clear-column-spec =
     μ-loop
     loop-holds
     factor-requires
-    add-add-scaled
+    (λ c. search needs)
     mul-add-scaled
     add-scaled-requires
-    mul-requires
-    add-g
+    (λ c κs. search needs)
+    (λ c. search needs)
     mul-g
     add-g-2
     slice-read-g
     slice-write-g
-    add-r
-    loop-less
+    (λ c. search needs)
+    (λ c. search needs)
     loop-again
-    same-length
+    (λ c. search needs)
     returns)

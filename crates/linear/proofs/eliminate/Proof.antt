@@ -20,14 +20,8 @@ pivot-requires c κs =
     let turn = c .before in
     (progress-area (turn .before .before .before .pre) (turn .before .loop .inv), turn .loop-test .taken)
 
-enum-known-found : tie.Need-enum-known-found Inv-loop μ-loop
-enum-known-found c = search needs
-
 enum-told : tie.Need-enum-told Inv-loop μ-loop
 enum-told c = search needs
-
-same-length : tie.Need-same-length Inv-loop μ-loop
-same-length c = search needs
 
 returns : tie.Need-returns Inv-loop μ-loop
 returns c =
@@ -41,17 +35,8 @@ reduce-requires c κs =
     let inv = turn .before .loop .inv in
     (progress-area (turn .before .before .before .pre) inv, (inv .stepped .reduced, told .before .before .before .pivot .ensures .found _ (told .before .found .given .1)))
 
-add-k : tie.Need-add-k Inv-loop μ-loop
-add-k c = search needs
-
-loop-less : tie.Need-loop-less Inv-loop μ-loop
-loop-less c = search needs
-
 loop-again : tie.Need-loop-again Inv-loop μ-loop
 loop-again c = progress-next (c .before .before .before .before .before .before .before .before .before .before .loop .inv) (c .before .before .reduce .ensures)
-
-same-length-2 : tie.Need-same-length-2 Inv-loop μ-loop
-same-length-2 c = search needs
 
 returns-2 : tie.Need-returns-2 Inv-loop μ-loop
 returns-2 c = solved (c .before .before .before .pre) (c .before .loop .inv) (c .loop-test .left)
@@ -64,13 +49,13 @@ eliminate-spec =
     μ-loop
     loop-holds
     pivot-requires
-    enum-known-found
+    (λ c. search needs)
     enum-told
-    same-length
+    (λ c. search needs)
     returns
     reduce-requires
-    add-k
-    loop-less
+    (λ c. search needs)
+    (λ c. search needs)
     loop-again
-    same-length-2
+    (λ c. search needs)
     returns-2)

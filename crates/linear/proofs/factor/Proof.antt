@@ -6,9 +6,6 @@ use borrow.Author.Needs.{needs}
 use Rattle.linear.proofs.factor.Statement.{statement}
 use Rattle.linear.proofs.factor.Tie as tie
 
-entry-requires : tie.Need-entry-requires
-entry-requires c κs = search needs
-
 returns : tie.Need-returns
 returns c = let a = c .before .before .args in cc (factor-here (a .k) (at (a .g .now) (a .n)))
 
@@ -16,4 +13,4 @@ returns-2 : tie.Need-returns-2
 returns-2 c = c .entry .ensures ∙ sym (factor-other _ _ _ (c .before .if1 .left))
 
 pub factor-spec : {M : Type 1} → statement M
-factor-spec = tie.close (tie.spec entry-requires returns returns-2)
+factor-spec = tie.close (tie.spec (λ c κs. search needs) returns returns-2)

@@ -13,9 +13,6 @@ Inv-loop g n k p₀ p = NoPivot g n k p
 abbrev μ-loop : tie.MeasureT-loop
 μ-loop g n k p₀ p = n - p
 
-loop-holds : tie.Need-loop-holds Inv-loop μ-loop
-loop-holds c = search needs
-
 entry-requires : tie.Need-entry-requires Inv-loop μ-loop
 entry-requires c κs =
     let pre = c .before .before .before .pre in
@@ -29,12 +26,6 @@ returns c =
       inside = omega arith;
       nonzero = λ e. c .if1 .taken (c .before .entry .ensures ∙ e);
     })
-
-add-p : tie.Need-add-p Inv-loop μ-loop
-add-p c = search needs
-
-loop-less : tie.Need-loop-less Inv-loop μ-loop
-loop-less c = search needs
 
 loop-again : tie.Need-loop-again Inv-loop μ-loop
 loop-again c =
@@ -50,10 +41,10 @@ pivot-spec =
     (tie.spec
     Inv-loop
     μ-loop
-    loop-holds
+    (λ c. search needs)
     entry-requires
     returns
-    add-p
-    loop-less
+    (λ c. search needs)
+    (λ c. search needs)
     loop-again
     returns-2)

@@ -17,9 +17,6 @@ here c g r e h = let pre = c .pre .0 in within r (pre .limit) (omega (arith, pre
 entry-requires : tie.Need-entry-requires
 entry-requires c κs = let start = c .before .before in (here start _ _ refl (start .pre .1 .1 .inside), omega (arith, start .pre))
 
-inverse-requires : tie.Need-inverse-requires
-inverse-requires c κs = search needs
-
 load-requires : tie.Need-load-requires
 load-requires c κs = let start = c .before .before .before .before .before in here start _ _ refl (omega (arith, start .pre))
 
@@ -33,12 +30,6 @@ store-requires-2 : tie.Need-store-requires-2
 store-requires-2 c κs =
     let start = c .before .before .before .before .before .before .before .before .before .before .before .before .before in
     here start _ _ (c .before .before .before .store .kept .0) (omega (arith, start .pre))
-
-clear-column-requires : tie.Need-clear-column-requires
-clear-column-requires c κs = search needs
-
-same-length : tie.Need-same-length
-same-length c = search needs
 
 returns : tie.Need-returns
 returns c =
@@ -59,11 +50,11 @@ reduce-spec =
     tie.close
     (tie.spec
     entry-requires
-    inverse-requires
+    (λ c κs. search needs)
     load-requires
     load-requires-2
     store-requires
     store-requires-2
-    clear-column-requires
-    same-length
+    (λ c κs. search needs)
+    (λ c. search needs)
     returns)

@@ -10,17 +10,8 @@ use Rattle.matrix.specs.PromiseLaws.{matrix-met}
 use Rattle.matrix.proofs.determinant_of.Statement.{statement}
 use Rattle.matrix.proofs.determinant_of.Tie as tie
 
-checked-requires : tie.Need-checked-requires
-checked-requires c κs = search needs
-
 enum-told : tie.Need-enum-told
 enum-told c = search needs
-
-enum-told-2 : tie.Need-enum-told-2
-enum-told-2 c = search needs
-
-number-requires : tie.Need-number-requires
-number-requires c κs = search needs
 
 returns : tie.Need-returns
 returns c =
@@ -42,10 +33,10 @@ pub determinant-of-spec : {M : Type 1} → statement M
 determinant-of-spec =
     tie.close
     (tie.spec
-    checked-requires
+    (λ c κs. search needs)
     enum-told
-    enum-told-2
-    number-requires
+    (λ c. search needs)
+    (λ c κs. search needs)
     returns
     determinant-requires
     returns-2)

@@ -8,17 +8,8 @@ use Rattle.matrix.specs.PromiseLaws.{makes-refused, matrix-met, invertib
 use Rattle.matrix.proofs.make_invertible.Statement.{statement}
 use Rattle.matrix.proofs.make_invertible.Tie as tie
 
-checked-requires : tie.Need-checked-requires
-checked-requires c κs = search needs
-
 enum-told : tie.Need-enum-told
 enum-told c = search needs
-
-enum-told-2 : tie.Need-enum-told-2
-enum-told-2 c = search needs
-
-refused-requires : tie.Need-refused-requires
-refused-requires c κs = search needs
 
 returns : tie.Need-returns
 returns c =
@@ -38,10 +29,10 @@ pub make-invertible-spec : {M : Type 1} → statement M
 make-invertible-spec =
     tie.close
     (tie.spec
-    checked-requires
+    (λ c κs. search needs)
     enum-told
-    enum-told-2
-    refused-requires
+    (λ c. search needs)
+    (λ c κs. search needs)
     returns
     search-requires
     returns-2)

@@ -8,17 +8,8 @@ use Rattle.matrix.specs.PromiseLaws.{makes-done, makes-refused, coeffici
 use Rattle.matrix.proofs.ring_element.Statement.{statement}
 use Rattle.matrix.proofs.ring_element.Tie as tie
 
-coefficients-checked-requires : tie.Need-coefficients-checked-requires
-coefficients-checked-requires c κs = search needs
-
 enum-told : tie.Need-enum-told
 enum-told c = search needs
-
-enum-told-2 : tie.Need-enum-told-2
-enum-told-2 c = search needs
-
-refused-requires : tie.Need-refused-requires
-refused-requires c κs = search needs
 
 returns : tie.Need-returns
 returns c =
@@ -40,10 +31,10 @@ pub ring-element-spec : {M : Type 1} → statement M
 ring-element-spec =
     tie.close
     (tie.spec
-    coefficients-checked-requires
+    (λ c κs. search needs)
     enum-told
-    enum-told-2
-    refused-requires
+    (λ c. search needs)
+    (λ c κs. search needs)
     returns
     combination-requires
     returns-2)

@@ -13,21 +13,6 @@ use Rattle.packing.proofs.byte_of.Tie as tie
 small : (c : tie.Start) (k : ℕ) → getD (c .args .elements .now) k 0 < 16
 small c k = in-field-lt (c .args .elements .now) (c .pre .1) k
 
-mul-e : tie.Need-mul-e
-mul-e c = search needs
-
-shared-slice-read-low : tie.Need-shared-slice-read-low
-shared-slice-read-low c = search needs
-
-add-if1 : tie.Need-add-if1
-add-if1 c = search needs
-
-add-joined : tie.Need-add-joined
-add-joined c = search needs
-
-shared-slice-read-joined : tie.Need-shared-slice-read-joined
-shared-slice-read-joined c = search needs
-
 joined-requires : tie.Need-joined-requires
 joined-requires c κs = let at = c .before .before .before .before in (small at _, small at _)
 
@@ -48,11 +33,11 @@ pub byte-of-spec : {M : Type 1} → statement M
 byte-of-spec =
     tie.close
     (tie.spec
-    mul-e
-    shared-slice-read-low
-    add-if1
-    add-joined
-    shared-slice-read-joined
+    (λ c. search needs)
+    (λ c. search needs)
+    (λ c. search needs)
+    (λ c. search needs)
+    (λ c. search needs)
     joined-requires
     joined-requires-2
     returns

@@ -10,16 +10,10 @@ use borrow.Author.Needs.{needs}
 use Rattle.packing.proofs.pack.Statement.{statement}
 use Rattle.packing.proofs.pack.Tie as tie
 
-pack-refusal-requires : tie.Need-pack-refusal-requires
-pack-refusal-requires c κs = search needs
-
 pack-all-requires : tie.Need-pack-all-requires
 pack-all-requires c κs =
     let at = c .before .before in
     pack-allowed _ _ (sym (at .pack-refusal .ensures) ∙ c .before .if1 .taken)
-
-answer-of-requires : tie.Need-answer-of-requires
-answer-of-requires c κs = search needs
 
 same-length : tie.Need-same-length
 same-length c = ⊎-elim (λ w. ap length (w .5) ∙ w .2 .kept .1 .0) (λ w. ap length (w .1)) (c .before .if1 .came)
@@ -33,4 +27,4 @@ returns c =
 pub pack-spec : {M : Type 1} → statement M
 pack-spec =
     tie.close
-    (tie.spec pack-refusal-requires pack-all-requires answer-of-requires same-length returns)
+    (tie.spec (λ c κs. search needs) pack-all-requires (λ c κs. search needs) same-length returns)

@@ -22,20 +22,8 @@ byte-of-requires : tie.Need-byte-of-requires Inv-loop μ-loop
 unfolding packedBytes
 byte-of-requires c κs = (omega arith, c .before .before .before .before .pre .1)
 
-slice-write-bytes : tie.Need-slice-write-bytes Inv-loop μ-loop
-slice-write-bytes c = search needs
-
-add-j : tie.Need-add-j Inv-loop μ-loop
-add-j c = search needs
-
-loop-less : tie.Need-loop-less Inv-loop μ-loop
-loop-less c = search needs
-
 loop-again : tie.Need-loop-again Inv-loop μ-loop
 loop-again c = (omega arith, fill-next (c .before .before .loop .inv .1) (omega arith) (c .byte-of .result) (c .byte-of .ensures))
-
-same-length : tie.Need-same-length Inv-loop μ-loop
-same-length c = search needs
 
 returns : tie.Need-returns Inv-loop μ-loop
 unfolding packed
@@ -49,9 +37,9 @@ pack-all-spec =
     μ-loop
     loop-holds
     byte-of-requires
-    slice-write-bytes
-    add-j
-    loop-less
+    (λ c. search needs)
+    (λ c. search needs)
+    (λ c. search needs)
     loop-again
-    same-length
+    (λ c. search needs)
     returns)

@@ -5,12 +5,9 @@ use Rattle.packing.specs.Packing.{packedBytes}
 use Rattle.packing.proofs.packed_bytes.Statement.{statement}
 use Rattle.packing.proofs.packed_bytes.Tie as tie
 
-add-result : tie.Need-add-result
-add-result c = omega arith
-
 returns : tie.Need-returns
 unfolding packedBytes
 returns c = omega arith
 
 pub packed-bytes-spec : {M : Type 1} → statement M
-packed-bytes-spec = tie.close (tie.spec add-result returns)
+packed-bytes-spec = tie.close (tie.spec (λ c. omega arith) returns)

@@ -10,16 +10,10 @@ use borrow.Author.Needs.{needs}
 use Rattle.packing.proofs.unpack.Statement.{statement}
 use Rattle.packing.proofs.unpack.Tie as tie
 
-unpack-refusal-requires : tie.Need-unpack-refusal-requires
-unpack-refusal-requires c κs = search needs
-
 unpack-all-requires : tie.Need-unpack-all-requires
 unpack-all-requires c κs =
     let at = c .before .before in
     unpack-allowed _ _ (sym (at .unpack-refusal .ensures) ∙ c .before .if1 .taken)
-
-answer-of-requires : tie.Need-answer-of-requires
-answer-of-requires c κs = search needs
 
 same-length : tie.Need-same-length
 same-length c = ⊎-elim (λ w. ap length (w .5) ∙ w .2 .kept .1 .0) (λ w. ap length (w .1)) (c .before .if1 .came)
@@ -33,4 +27,4 @@ returns c =
 pub unpack-spec : {M : Type 1} → statement M
 unpack-spec =
     tie.close
-    (tie.spec unpack-refusal-requires unpack-all-requires answer-of-requires same-length returns)
+    (tie.spec (λ c κs. search needs) unpack-all-requires (λ c κs. search needs) same-length returns)

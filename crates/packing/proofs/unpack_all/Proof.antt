@@ -23,20 +23,8 @@ element-requires : tie.Need-element-requires Inv-loop μ-loop
 unfolding packedBytes
 element-requires c κs = omega arith
 
-slice-write-elements : tie.Need-slice-write-elements Inv-loop μ-loop
-slice-write-elements c = search needs
-
-add-e : tie.Need-add-e Inv-loop μ-loop
-add-e c = search needs
-
-loop-less : tie.Need-loop-less Inv-loop μ-loop
-loop-less c = search needs
-
 loop-again : tie.Need-loop-again Inv-loop μ-loop
 loop-again c = (omega arith, fill-next (c .before .before .loop .inv .1) (omega arith) (c .element .result) (c .element .ensures))
-
-same-length : tie.Need-same-length Inv-loop μ-loop
-same-length c = search needs
 
 returns : tie.Need-returns Inv-loop μ-loop
 unfolding unpacked
@@ -50,9 +38,9 @@ unpack-all-spec =
     μ-loop
     loop-holds
     element-requires
-    slice-write-elements
-    add-e
-    loop-less
+    (λ c. search needs)
+    (λ c. search needs)
+    (λ c. search needs)
     loop-again
-    same-length
+    (λ c. search needs)
     returns)

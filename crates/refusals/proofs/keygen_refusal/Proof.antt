@@ -2,7 +2,7 @@
 -- A callee with no `requires` asks nothing: `(λ _ _. tt)`.
 use mathlib.Core.Path.{sym, _∙_}
 use borrow.Author.Tests.{not-true, not-false}
-use Rattle.ground.specs.Answers.{lowest}
+use Rattle.ground.specs.Answers.{first}
 use Rattle.sets.specs.Sets.{publicBytes, privateBytes, keyBytes}
 use Rattle.refusals.specs.Rules.{keygenRules}
 use Rattle.refusals.specs.Chain.{length-rule, met-rule, no-rule}
@@ -10,7 +10,7 @@ use Rattle.refusals.proofs.keygen_refusal.Statement.{statement}
 use Rattle.refusals.proofs.keygen_refusal.Tie as tie
 
 returns : tie.Need-returns
-unfolding lowest keygenRules
+unfolding first keygenRules
 returns c = rw (sym (c .before .allowed .ensures) ∙ not-true _ (c .if1 .taken))
 
 returns-2 : tie.Need-returns-2

@@ -2,17 +2,17 @@
 -- A callee with no `requires` asks nothing: `(λ _ _. tt)`.
 use mathlib.Core.Path.{sym, _∙_}
 use borrow.Author.Tests.{not-true, not-false}
-use Rattle.ground.specs.Answers.{lowest}
+use Rattle.ground.specs.Answers.{first}
 use Rattle.refusals.specs.Rules.{saltRules}
 use Rattle.refusals.proofs.salt_refusal.Statement.{statement}
 use Rattle.refusals.proofs.salt_refusal.Tie as tie
 
 returns : tie.Need-returns
-unfolding lowest saltRules
+unfolding first saltRules
 returns c = rw (sym (c .before .allowed .ensures) ∙ not-true _ (c .if1 .taken))
 
 returns-2 : tie.Need-returns-2
-unfolding lowest saltRules
+unfolding first saltRules
 returns-2 c =
     let at = c .before .before in
     rw (

@@ -15,9 +15,6 @@ Inv-loop dst₀ at n scalars place stride count src first from₀ x₀ dst from 
 abbrev μ-loop : tie.MeasureT-loop
 μ-loop dst₀ at n scalars place stride count src first from₀ x₀ dst from x = count - x
 
-mul-from : tie.Need-mul-from Inv-loop μ-loop
-mul-from c = search needs
-
 loop-holds : tie.Need-loop-holds Inv-loop μ-loop
 loop-holds c = combining-none (search needs)
 
@@ -47,19 +44,10 @@ add-scaled-requires c κs = omega (arith, row-inside (c .before .before))
 add-from : tie.Need-add-from Inv-loop μ-loop
 add-from c = omega (arith, row-inside (c .before .before .before .before .before))
 
-add-x : tie.Need-add-x Inv-loop μ-loop
-add-x c = search needs
-
-loop-less : tie.Need-loop-less Inv-loop μ-loop
-loop-less c = search needs
-
 loop-again : tie.Need-loop-again Inv-loop μ-loop
 loop-again c =
     let turn = c .before .before .before .before .before in
     combining-next (turn .before .loop .inv) (turn .loop-test .taken) refl (c .before .before .add-scaled .ensures)
-
-same-length : tie.Need-same-length Inv-loop μ-loop
-same-length c = search needs
 
 returns : tie.Need-returns Inv-loop μ-loop
 returns c = combining-end (c .before .loop .inv) (c .loop-test .left)
@@ -70,15 +58,15 @@ add-columns-spec =
     (tie.spec
     Inv-loop
     μ-loop
-    mul-from
+    (λ c. search needs)
     loop-holds
     mul-scalar
     add-scalar
     shared-slice-read-scalar
     add-scaled-requires
     add-from
-    add-x
-    loop-less
+    (λ c. search needs)
+    (λ c. search needs)
     loop-again
-    same-length
+    (λ c. search needs)
     returns)

@@ -16,41 +16,8 @@ Inv-loop dst₀ at src from n s s1 s2 s4 s8 i₀ dst i = (i ≤ n) × Plus dst�
 abbrev μ-loop : tie.MeasureT-loop
 μ-loop dst₀ at src from n s s1 s2 s4 s8 i₀ dst i = n - i
 
-twice-requires : tie.Need-twice-requires Inv-loop μ-loop
-twice-requires c κs = search needs
-
-twice-requires-2 : tie.Need-twice-requires-2 Inv-loop μ-loop
-twice-requires-2 c κs = search needs
-
-twice-requires-3 : tie.Need-twice-requires-3 Inv-loop μ-loop
-twice-requires-3 c κs = search needs
-
 loop-holds : tie.Need-loop-holds Inv-loop μ-loop
 loop-holds c = (search needs, plus-none)
-
-add-b : tie.Need-add-b Inv-loop μ-loop
-add-b c = search needs
-
-shared-slice-read-b : tie.Need-shared-slice-read-b Inv-loop μ-loop
-shared-slice-read-b c = search needs
-
-chosen-requires : tie.Need-chosen-requires Inv-loop μ-loop
-chosen-requires c κs = search needs
-
-add-dst : tie.Need-add-dst Inv-loop μ-loop
-add-dst c = search needs
-
-slice-read-dst : tie.Need-slice-read-dst Inv-loop μ-loop
-slice-read-dst c = search needs
-
-slice-write-dst : tie.Need-slice-write-dst Inv-loop μ-loop
-slice-write-dst c = search needs
-
-add-i : tie.Need-add-i Inv-loop μ-loop
-add-i c = search needs
-
-loop-less : tie.Need-loop-less Inv-loop μ-loop
-loop-less c = search needs
 
 loop-again : tie.Need-loop-again Inv-loop μ-loop
 unfolding add
@@ -63,9 +30,6 @@ loop-again c =
           ∙ mul-chosen (first .before .before .before .args .s) _ _ _ _ _ refl (first .twice .ensures) (turn .before .before .twice2 .ensures) (turn .before .twice3 .ensures)),
     )
 
-same-length : tie.Need-same-length Inv-loop μ-loop
-same-length c = search needs
-
 returns : tie.Need-returns Inv-loop μ-loop
 returns c = plus-end (c .before .loop .inv .1) (c .before .loop .inv .0) (c .loop-test .left)
 
@@ -75,18 +39,18 @@ add-scaled-spec =
     (tie.spec
     Inv-loop
     μ-loop
-    twice-requires
-    twice-requires-2
-    twice-requires-3
+    (λ c κs. search needs)
+    (λ c κs. search needs)
+    (λ c κs. search needs)
     loop-holds
-    add-b
-    shared-slice-read-b
-    chosen-requires
-    add-dst
-    slice-read-dst
-    slice-write-dst
-    add-i
-    loop-less
+    (λ c. search needs)
+    (λ c. search needs)
+    (λ c κs. search needs)
+    (λ c. search needs)
+    (λ c. search needs)
+    (λ c. search needs)
+    (λ c. search needs)
+    (λ c. search needs)
     loop-again
-    same-length
+    (λ c. search needs)
     returns)

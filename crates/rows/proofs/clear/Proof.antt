@@ -16,25 +16,10 @@ Inv-loop s₀ k₀ s k = (k ≤ length s₀) × (length s ≡ length s₀) × (s
 abbrev μ-loop : tie.MeasureT-loop
 μ-loop s₀ k₀ s k = length s₀ - k
 
-loop-holds : tie.Need-loop-holds Inv-loop μ-loop
-loop-holds c = search needs
-
-slice-write-s : tie.Need-slice-write-s Inv-loop μ-loop
-slice-write-s c = search needs
-
-add-k : tie.Need-add-k Inv-loop μ-loop
-add-k c = search needs
-
-loop-less : tie.Need-loop-less Inv-loop μ-loop
-loop-less c = search needs
-
 loop-again : tie.Need-loop-again Inv-loop μ-loop
 loop-again c =
     let inside : c .before .loop .k < length (c .before .before .args .s .now) = omega arith in
     (search needs, simp length-set (search needs), rw (c .before .loop .inv .2) (fill-more _ 0 _ inside))
-
-same-length : tie.Need-same-length Inv-loop μ-loop
-same-length c = search needs
 
 returns : tie.Need-returns Inv-loop μ-loop
 returns c = c .before .loop .inv .2 ∙ zeros-end _ _ (c .before .loop .inv .0) (omega arith)
@@ -45,10 +30,10 @@ clear-spec =
     (tie.spec
     Inv-loop
     μ-loop
-    loop-holds
-    slice-write-s
-    add-k
-    loop-less
+    (λ c. search needs)
+    (λ c. search needs)
+    (λ c. search needs)
+    (λ c. search needs)
     loop-again
-    same-length
+    (λ c. search needs)
     returns)

@@ -17,29 +17,11 @@ abbrev μ-loop : tie.MeasureT-loop
 loop-holds : tie.Need-loop-holds Inv-loop μ-loop
 loop-holds c = (search needs, written-none)
 
-add-put : tie.Need-add-put Inv-loop μ-loop
-add-put c = search needs
-
-add-put-2 : tie.Need-add-put-2 Inv-loop μ-loop
-add-put-2 c = search needs
-
-shared-slice-read-put : tie.Need-shared-slice-read-put Inv-loop μ-loop
-shared-slice-read-put c = search needs
-
 put-requires : tie.Need-put-requires Inv-loop μ-loop
 put-requires c κs = (omega arith, c .before .before .before .before .before .before .pre .1 (c .before .before .before .loop .e) (c .before .before .loop-test .taken))
 
-add-e : tie.Need-add-e Inv-loop μ-loop
-add-e c = search needs
-
-loop-less : tie.Need-loop-less Inv-loop μ-loop
-loop-less c = search needs
-
 loop-again : tie.Need-loop-again Inv-loop μ-loop
 loop-again c = (search needs, written-next (c .before .before .before .before .before .before .loop .inv .1) (c .before .before .put .ensures) refl)
-
-same-length : tie.Need-same-length Inv-loop μ-loop
-same-length c = search needs
 
 returns : tie.Need-returns Inv-loop μ-loop
 returns c = written-end (c .before .loop .inv .1) (c .before .loop .inv .0) (c .loop-test .left)
@@ -51,12 +33,12 @@ put-row-spec =
     Inv-loop
     μ-loop
     loop-holds
-    add-put
-    add-put-2
-    shared-slice-read-put
+    (λ c. search needs)
+    (λ c. search needs)
+    (λ c. search needs)
     put-requires
-    add-e
-    loop-less
+    (λ c. search needs)
+    (λ c. search needs)
     loop-again
-    same-length
+    (λ c. search needs)
     returns)

@@ -7,29 +7,8 @@ use borrow.Author.Needs.{needs}
 use Rattle.salt.proofs.salt.Statement.{statement}
 use Rattle.salt.proofs.salt.Tie as tie
 
-salt-refusal-requires : tie.Need-salt-refusal-requires
-salt-refusal-requires c κs = search needs
-
 sub-start : tie.Need-sub-start
 sub-start c = omega (arith, salt-long _ _ (sym (c .before .salt-refusal .ensures) ∙ c .if1 .taken))
-
-sub-result : tie.Need-sub-result
-sub-result c = search needs
-
-part-result-start : tie.Need-part-result-start
-part-result-start c = search needs
-
-part-result-end : tie.Need-part-result-end
-part-result-end c = search needs
-
-sub-result-2 : tie.Need-sub-result-2
-sub-result-2 c = search needs
-
-part-result-start-2 : tie.Need-part-result-start-2
-part-result-start-2 c = search needs
-
-part-result-end-2 : tie.Need-part-result-end-2
-part-result-end-2 c = search needs
 
 returns : tie.Need-returns
 unfolding saltOf
@@ -49,13 +28,13 @@ pub salt-spec : {M : Type 1} → statement M
 salt-spec =
     tie.close
     (tie.spec
-    salt-refusal-requires
+    (λ c κs. search needs)
     sub-start
-    sub-result
-    part-result-start
-    part-result-end
-    sub-result-2
-    part-result-start-2
-    part-result-end-2
+    (λ c. search needs)
+    (λ c. search needs)
+    (λ c. search needs)
+    (λ c. search needs)
+    (λ c. search needs)
+    (λ c. search needs)
     returns
     returns-2)

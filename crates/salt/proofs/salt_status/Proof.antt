@@ -4,15 +4,9 @@ use borrow.Author.Needs.{needs}
 use Rattle.salt.proofs.salt_status.Statement.{statement}
 use Rattle.salt.proofs.salt_status.Tie as tie
 
-salt-refusal-requires : tie.Need-salt-refusal-requires
-salt-refusal-requires c κs = search needs
-
-answer-of-requires : tie.Need-answer-of-requires
-answer-of-requires c κs = search needs
-
 returns : tie.Need-returns
 unfolding saltRefusal
 returns c = cc
 
 pub salt-status-spec : {M : Type 1} → statement M
-salt-status-spec = tie.close (tie.spec salt-refusal-requires answer-of-requires returns)
+salt-status-spec = tie.close (tie.spec (λ c κs. search needs) (λ c κs. search needs) returns)

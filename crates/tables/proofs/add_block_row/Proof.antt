@@ -41,19 +41,10 @@ add-elements-requires : tie.Need-add-elements-requires Inv-loop μ-loop
 add-elements-requires c κs =
     omega (arith, turn (c .before .before), row-fits (start (c .before .before) .args .l) (c .before .before .loop-test .taken), c .before .row-start .ensures)
 
-add-k : tie.Need-add-k Inv-loop μ-loop
-add-k c = search needs
-
-loop-less : tie.Need-loop-less Inv-loop μ-loop
-loop-less c = search needs
-
 loop-again : tie.Need-loop-again Inv-loop μ-loop
 loop-again c =
     let now = c .before .before .before .before .before in
     rowing-next (now .before .loop .inv) (now .loop-test .taken) refl (c .before .before .before .before .row-start .ensures) (c .before .before .add-elements .ensures)
-
-same-length : tie.Need-same-length Inv-loop μ-loop
-same-length c = search needs
 
 returns : tie.Need-returns Inv-loop μ-loop
 returns c = rowing-end (c .before .loop .inv) (c .loop-test .left)
@@ -70,8 +61,8 @@ add-block-row-spec =
     mul-add-elements
     add-add-elements
     add-elements-requires
-    add-k
-    loop-less
+    (λ c. search needs)
+    (λ c. search needs)
     loop-again
-    same-length
+    (λ c. search needs)
     returns)

@@ -5,20 +5,11 @@ use borrow.Author.Needs.{needs}
 use Rattle.tables.proofs.row_start.Statement.{statement}
 use Rattle.tables.proofs.row_start.Tie as tie
 
-mul-result : tie.Need-mul-result
-mul-result c = search needs
-
-mul-result-2 : tie.Need-mul-result-2
-mul-result-2 c = search needs
-
 mul-result-3 : tie.Need-mul-result-3
 mul-result-3 c = omega (arith, mul-le-mul-right (c .args .l) (c .pre .0))
 
 add-result : tie.Need-add-result
 add-result c = omega (arith, mul-le-mul-right (c .args .l) (c .pre .0))
 
-returns : tie.Need-returns
-returns c = search needs
-
 pub row-start-spec : {M : Type 1} → statement M
-row-start-spec = tie.close (tie.spec mul-result mul-result-2 mul-result-3 add-result returns)
+row-start-spec = tie.close (tie.spec (λ c. search needs) (λ c. search needs) mul-result-3 add-result (λ c. search needs))

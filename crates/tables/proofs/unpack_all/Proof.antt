@@ -4,18 +4,9 @@ use borrow.Author.Needs.{needs}
 use Rattle.tables.proofs.unpack_all.Statement.{statement}
 use Rattle.tables.proofs.unpack_all.Tie as tie
 
-clear-requires : tie.Need-clear-requires
-clear-requires c κs = search needs
-
-add-elements-requires : tie.Need-add-elements-requires
-add-elements-requires c κs = search needs
-
-same-length : tie.Need-same-length
-same-length c = search needs
-
 returns : tie.Need-returns
 returns c =
     unpacked-from (c .before .before .before .before .before .before .clear .ensures) (c .before .before .add-elements .ensures)
 
 pub unpack-all-spec : {M : Type 1} → statement M
-unpack-all-spec = tie.close (tie.spec clear-requires add-elements-requires same-length returns)
+unpack-all-spec = tie.close (tie.spec (λ c κs. search needs) (λ c κs. search needs) (λ c. search needs) returns)

@@ -18,24 +18,6 @@ abbrev μ-loop : tie.MeasureT-loop
 loop-holds : tie.Need-loop-holds Inv-loop μ-loop
 loop-holds c = (search needs, (plus-none, λ k. ap (nibble _) (omega arith)))
 
-cast-dst : tie.Need-cast-dst Inv-loop μ-loop
-cast-dst c = search needs
-
-add-dst : tie.Need-add-dst Inv-loop μ-loop
-add-dst c = search needs
-
-slice-read-dst : tie.Need-slice-read-dst Inv-loop μ-loop
-slice-read-dst c = search needs
-
-slice-write-dst : tie.Need-slice-write-dst Inv-loop μ-loop
-slice-write-dst c = search needs
-
-add-c : tie.Need-add-c Inv-loop μ-loop
-add-c c = search needs
-
-loop-less : tie.Need-loop-less Inv-loop μ-loop
-loop-less c = search needs
-
 loop-again : tie.Need-loop-again Inv-loop μ-loop
 unfolding add
 loop-again c = let turn = c .before .before in (
@@ -45,9 +27,6 @@ loop-again c = let turn = c .before .before in (
     λ k. nibble-next _ k ∙ turn .loop .inv .1 .1 (suc k) ∙ ap (nibble _) (omega arith),
   ),
 )
-
-same-length : tie.Need-same-length Inv-loop μ-loop
-same-length c = search needs
 
 returns : tie.Need-returns Inv-loop μ-loop
 returns c = plus-end (c .before .loop .inv .1 .0) (c .before .loop .inv .0) (c .loop-test .left)
@@ -59,12 +38,12 @@ add-word-spec =
     Inv-loop
     μ-loop
     loop-holds
-    cast-dst
-    add-dst
-    slice-read-dst
-    slice-write-dst
-    add-c
-    loop-less
+    (λ c. search needs)
+    (λ c. search needs)
+    (λ c. search needs)
+    (λ c. search needs)
+    (λ c. search needs)
+    (λ c. search needs)
     loop-again
-    same-length
+    (λ c. search needs)
     returns)

@@ -5,15 +5,6 @@ use borrow.Author.Needs.{needs}
 use Rattle.words.proofs.factor.Statement.{statement}
 use Rattle.words.proofs.factor.Tie as tie
 
-cast-result : tie.Need-cast-result
-cast-result c = search needs
-
-mul-result : tie.Need-mul-result
-mul-result c = search needs
-
-cast-result-2 : tie.Need-cast-result-2
-cast-result-2 c = search needs
-
 returns : tie.Need-returns
 returns c = factor-low _ (c .if1 .taken)
 
@@ -21,4 +12,4 @@ returns-2 : tie.Need-returns-2
 returns-2 c = factor-high _ (c .if1 .left)
 
 pub factor-spec : {M : Type 1} → statement M
-factor-spec = tie.close (tie.spec cast-result mul-result cast-result-2 returns returns-2)
+factor-spec = tie.close (tie.spec (λ c. search needs) (λ c. search needs) (λ c. search needs) returns returns-2)

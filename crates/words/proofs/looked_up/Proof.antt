@@ -70,12 +70,6 @@ mul-w-2 c = scaled-fits _ _ 8 (lt-of-lt-of-le (high-word _ _) (inside (c .before
 shared-slice-read-w-2 : tie.Need-shared-slice-read-w-2 Inv-loop μ-loop
 shared-slice-read-w-2 c = omega (arith, inside (c .before .before .before) .0)
 
-add-x : tie.Need-add-x Inv-loop μ-loop
-add-x c = search needs
-
-loop-less : tie.Need-loop-less Inv-loop μ-loop
-loop-less c = search needs
-
 loop-again : tie.Need-loop-again Inv-loop μ-loop
 unfolding add lookedUp
 loop-again c = (search needs, lookups-next _ _ _ _ _ _ _ (c .before .before .before .before .loop .inv .1))
@@ -104,7 +98,7 @@ looked-up-spec =
     add-w-3
     mul-w-2
     shared-slice-read-w-2
-    add-x
-    loop-less
+    (λ c. search needs)
+    (λ c. search needs)
     loop-again
     returns)

@@ -17,18 +17,6 @@ abbrev μ-loop : tie.MeasureT-loop
 loop-holds : tie.Need-loop-holds Inv-loop μ-loop
 loop-holds c = (search needs, sym (multiple-none _ _ _ _))
 
-sub-c : tie.Need-sub-c Inv-loop μ-loop
-sub-c c = search needs
-
-add-mul : tie.Need-add-mul Inv-loop μ-loop
-add-mul c = search needs
-
-shared-slice-read-mul : tie.Need-shared-slice-read-mul Inv-loop μ-loop
-shared-slice-read-mul c = search needs
-
-mul-requires : tie.Need-mul-requires Inv-loop μ-loop
-mul-requires c κs = search needs
-
 -- one element more fits the word
 room : (c : tie.After-mul Inv-loop μ-loop) → c .before .before .before .loop .w < 16 ^ 15
 room c =
@@ -42,14 +30,8 @@ small c = rw (c .mul .ensures) (mul-lt _ _)
 mul-w : tie.Need-mul-w Inv-loop μ-loop
 mul-w c = omega (arith, room c)
 
-cast-w : tie.Need-cast-w Inv-loop μ-loop
-cast-w c = search needs
-
 add-w : tie.Need-add-w Inv-loop μ-loop
 add-w c = omega (arith, room c, small c)
-
-loop-less : tie.Need-loop-less Inv-loop μ-loop
-loop-less c = search needs
 
 loop-again : tie.Need-loop-again Inv-loop μ-loop
 loop-again c =
@@ -67,13 +49,13 @@ multiple-spec =
     Inv-loop
     μ-loop
     loop-holds
-    sub-c
-    add-mul
-    shared-slice-read-mul
-    mul-requires
+    (λ c. search needs)
+    (λ c. search needs)
+    (λ c. search needs)
+    (λ c κs. search needs)
     mul-w
-    cast-w
+    (λ c. search needs)
     add-w
-    loop-less
+    (λ c. search needs)
     loop-again
     returns)

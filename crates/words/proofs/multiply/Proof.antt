@@ -15,14 +15,8 @@ Inv-loop table₀ src n count total k₀ table k = (k ≤ total) × Multiplying 
 abbrev μ-loop : tie.MeasureT-loop
 μ-loop table₀ src n count total k₀ table k = total - k
 
-mul-total : tie.Need-mul-total Inv-loop μ-loop
-mul-total c = search needs
-
 loop-holds : tie.Need-loop-holds Inv-loop μ-loop
 loop-holds c = (search needs, multiplying-none)
-
-factor-requires : tie.Need-factor-requires Inv-loop μ-loop
-factor-requires c κs = omega arith
 
 -- the row of word k lies within src
 row-inside : (c : tie.In-loop Inv-loop μ-loop)
@@ -39,17 +33,8 @@ mul-multiple c = omega (arith, row-inside (c .before))
 multiple-requires : tie.Need-multiple-requires Inv-loop μ-loop
 multiple-requires c κs = (row-inside (c .before), c .before .before .before .before .before .pre .1 .1)
 
-mul-table : tie.Need-mul-table Inv-loop μ-loop
-mul-table c = search needs
-
 slice-write-table : tie.Need-slice-write-table Inv-loop μ-loop
 slice-write-table c = omega (arith, c .before .before .before .loop .inv .1 .long)
-
-add-k : tie.Need-add-k Inv-loop μ-loop
-add-k c = search needs
-
-loop-less : tie.Need-loop-less Inv-loop μ-loop
-loop-less c = search needs
 
 loop-again : tie.Need-loop-again Inv-loop μ-loop
 loop-again c = let turn = c .before .before in
@@ -67,15 +52,15 @@ multiply-spec =
     (tie.spec
     Inv-loop
     μ-loop
-    mul-total
+    (λ c. search needs)
     loop-holds
-    factor-requires
+    (λ c κs. omega arith)
     mul-multiple
     multiple-requires
-    mul-table
+    (λ c. search needs)
     slice-write-table
-    add-k
-    loop-less
+    (λ c. search needs)
+    (λ c. search needs)
     loop-again
     same-length
     returns)

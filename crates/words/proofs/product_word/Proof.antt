@@ -52,12 +52,6 @@ mul-looked-up c = omega (arith, square c)
 looked-up-requires : tie.Need-looked-up-requires Inv-loop μ-loop
 looked-up-requires c κs = rows-inside c
 
-add-x : tie.Need-add-x Inv-loop μ-loop
-add-x c = search needs
-
-loop-less : tie.Need-loop-less Inv-loop μ-loop
-loop-less c = search needs
-
 loop-again : tie.Need-loop-again Inv-loop μ-loop
 unfolding add
 loop-again c = (search needs, columns-next _ _ _ _ _ _ _ (c .before .before .loop .inv .1) (c .looked-up .ensures))
@@ -78,7 +72,7 @@ product-word-spec =
     add-looked-up-2
     mul-looked-up
     looked-up-requires
-    add-x
-    loop-less
+    (λ c. search needs)
+    (λ c. search needs)
     loop-again
     returns)

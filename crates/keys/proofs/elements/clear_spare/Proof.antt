@@ -1,21 +1,15 @@
 -- `keys::elements::clear_spare` meets its contract: an odd count has its zero written, an even one leaves no spare half. Rests on Elements and Places.
-use Rattle.keys.specs.Places.{spare-within}
+use Rattle.keys.specs.KeyPlaces.{spare-within}
 use Rattle.keys.specs.Elements.{spare-put, spare-none}
 use borrow.Author.Needs.{needs}
 use native.Mathlib.Omega.{arith}
 use Rattle.keys.proofs.elements.clear_spare.Statement.{statement}
 use Rattle.keys.proofs.elements.clear_spare.Tie as tie
 
-key-count-requires : tie.Need-key-count-requires
-key-count-requires c κs = search needs
-
 put-requires : tie.Need-put-requires
 put-requires c κs =
     let begin = c .before .before .before .before in
     (spare-within (begin .args .set) (c .before .before .key-count .ensures) (c .before .if1 .taken) (begin .pre .1), omega arith)
-
-same-length : tie.Need-same-length
-same-length c = search needs
 
 returns : tie.Need-returns
 returns c =
@@ -29,8 +23,8 @@ pub clear-spare-spec : {M : Type 1} → statement M
 clear-spare-spec =
     tie.close
     (tie.spec
-    key-count-requires
+    (λ c κs. search needs)
     put-requires
-    same-length
+    (λ c. search needs)
     returns
     returns-2)

@@ -2,7 +2,7 @@
 use mathlib.Core.Path.{refl}
 use Prim.Native.Nat.{_+_, _-_}
 use Rattle.sets.specs.Bounds.{Products}
-use Rattle.keys.specs.Places.{PutTurn, put-turn, key-within}
+use Rattle.keys.specs.KeyPlaces.{PutTurn, put-turn, key-within}
 use Rattle.keys.specs.Elements.{rowPlace, Putting, putting-none, putting-next, putting-end}
 use borrow.Author.Needs.{needs}
 use native.Mathlib.Omega.{arith}
@@ -89,16 +89,10 @@ add-q c =
     let now = c .before .before .before .before in
     omega (arith, now .loop-test .taken, start now .pre .0 .products .ool)
 
-loop-less : tie.Need-loop-less Inv-loop μ-loop
-loop-less c = search needs
-
 loop-again : tie.Need-loop-again Inv-loop μ-loop
 loop-again c =
     let now = c .before .before .before .before in
     putting-next (now .before .loop .inv) (now .loop-test .taken) refl refl (c .before .before .put-row .ensures)
-
-same-length : tie.Need-same-length Inv-loop μ-loop
-same-length c = search needs
 
 returns : tie.Need-returns Inv-loop μ-loop
 returns c = putting-end (c .before .loop .inv) (c .loop-test .left)
@@ -128,7 +122,7 @@ put-p22-spec =
     add-put-row-3
     put-row-requires
     add-q
-    loop-less
+    (λ c. search needs)
     loop-again
-    same-length
+    (λ c. search needs)
     returns)

@@ -2,8 +2,8 @@
 use mathlib.Core.Path.{refl}
 use Prim.Native.Nat.{_*_, _-_}
 use Rattle.tables.specs.Table.{Filling, filling-none, filling-next, filling-end}
-use Rattle.tables.specs.Numbers.{public-within}
-use Rattle.keys.specs.Places.{RowTurn, row-turn}
+use Rattle.streams.specs.Numbers.{public-within}
+use Rattle.keys.specs.KeyPlaces.{RowTurn, row-turn}
 use Rattle.keys.specs.Parts.{p21Row, p21-row}
 use borrow.Author.Needs.{needs}
 use native.Mathlib.Omega.{arith}
@@ -55,21 +55,12 @@ add-block-row-requires c κs =
       public-within (s .pre .0) (s .args .public .now) (s .pre .1 .1) (c .before .p21-number .ensures .within),
     )
 
-add-y : tie.Need-add-y Inv-loop μ-loop
-add-y c = search needs
-
-loop-less : tie.Need-loop-less Inv-loop μ-loop
-loop-less c = search needs
-
 loop-again : tie.Need-loop-again Inv-loop μ-loop
 loop-again c =
     let now = c .before .before .before .before .before in
     let a = start now .args in
     filling-next (now .before .loop .inv) (now .loop-test .taken) refl
     (p21-row (a .set) (a .public .now) (a .i) (now .before .loop .y) (c .before .before .before .before .p21-number .ensures .is) (c .before .before .add-block-row .ensures))
-
-same-length : tie.Need-same-length Inv-loop μ-loop
-same-length c = search needs
 
 returns : tie.Need-returns Inv-loop μ-loop
 returns c = filling-end (c .before .loop .inv) (c .loop-test .left)
@@ -88,8 +79,8 @@ add-p21-spec =
     mul-add-block-row
     rem-add-block-row
     add-block-row-requires
-    add-y
-    loop-less
+    (λ c. search needs)
+    (λ c. search needs)
     loop-again
-    same-length
+    (λ c. search needs)
     returns)

@@ -1,8 +1,8 @@
 -- `keys::parts::f21_table` meets its contract: zeros gain P21, then T12 transposed times P11. Rests on Parts and tables' Rooms and Numbers.
 use Prim.Native.Nat.{_*_}
-use Rattle.tables.specs.Numbers.{public-places, number-within}
-use Rattle.tables.specs.Rooms.{kept-room, v-blocks-room}
-use Rattle.keys.specs.Places.{some-v, some-l}
+use Rattle.streams.specs.Numbers.{public-places, number-within}
+use Rattle.sets.specs.Rooms.{kept-room, v-blocks-room}
+use Rattle.keys.specs.KeyPlaces.{some-v, some-l}
 use Rattle.keys.specs.Parts.{f21-filled}
 use borrow.Author.Needs.{needs}
 use native.Mathlib.Omega.{arith}
@@ -16,9 +16,6 @@ p11-number-requires : tie.Need-p11-number-requires
 p11-number-requires c κs =
     let s = c .before .before .before .before in
     (s .pre .0, s .pre .1 .0 .0, some-v (s .pre .0))
-
-clear-requires : tie.Need-clear-requires
-clear-requires c κs = search needs
 
 add-p21-requires : tie.Need-add-p21-requires
 add-p21-requires c κs =
@@ -38,9 +35,6 @@ add-left-requires c κs =
       (v-blocks-room (s .pre .0), (some-l (s .pre .0), some-v (s .pre .0))),
     )
 
-same-length : tie.Need-same-length
-same-length c = search needs
-
 returns : tie.Need-returns
 returns c =
     let numbered = c .before .before .before .before .before .before .before .before .before .before .before .before in
@@ -55,8 +49,8 @@ f21-table-spec =
     (tie.spec
     mul-w
     p11-number-requires
-    clear-requires
+    (λ c κs. search needs)
     add-p21-requires
     add-left-requires
-    same-length
+    (λ c. search needs)
     returns)

@@ -1,8 +1,8 @@
 -- `keys::parts::p22_table` meets its contract: zeros gain T12 transposed times P12, then F21 times T12. Rests on Parts and tables' Rooms and Numbers.
 use Prim.Native.Nat.{_*_}
-use Rattle.tables.specs.Numbers.{public-places, number-within}
-use Rattle.tables.specs.Rooms.{kept-room, o-blocks-room}
-use Rattle.keys.specs.Places.{some-v, some-o, some-l}
+use Rattle.streams.specs.Numbers.{public-places, number-within}
+use Rattle.sets.specs.Rooms.{kept-room, o-blocks-room}
+use Rattle.keys.specs.KeyPlaces.{some-v, some-o, some-l}
 use Rattle.keys.specs.Parts.{p22-filled}
 use borrow.Author.Needs.{needs}
 use native.Mathlib.Omega.{arith}
@@ -16,9 +16,6 @@ p12-number-requires : tie.Need-p12-number-requires
 p12-number-requires c κs =
     let s = c .before .before .before .before in
     (s .pre .0, s .pre .1 .0 .0, some-v (s .pre .0))
-
-clear-requires : tie.Need-clear-requires
-clear-requires c κs = search needs
 
 add-left-requires : tie.Need-add-left-requires
 add-left-requires c κs =
@@ -40,9 +37,6 @@ add-times-requires c κs =
     let room = kept-room cleared (c .before .before .before .add-left .kept .0) in
     (omega (arith, room), (s .pre .1 .1 .2, s .pre .1 .1 .1))
 
-same-length : tie.Need-same-length
-same-length c = search needs
-
 returns : tie.Need-returns
 returns c =
     let numbered = c .before .before .before .before .before .before .before .before .before .before .before .before in
@@ -57,9 +51,9 @@ p22-table-spec =
     (tie.spec
     mul-w
     p12-number-requires
-    clear-requires
+    (λ c κs. search needs)
     add-left-requires
     mul-add-times
     add-times-requires
-    same-length
+    (λ c. search needs)
     returns)

@@ -2,7 +2,7 @@
 use Prim.Native.Nat.{_*_, _-_, _≤_}
 use Rattle.rows.specs.Plus.{Plus}
 use Rattle.matrix.specs.Matrix.{mulM}
-use Rattle.matrix.specs.Block.{view}
+use Rattle.matrix.specs.Block.{view, stride}
 use Rattle.matrix.specs.BlockRows.{product-row-none, product-row-next, product-row-end}
 use borrow.Author.Needs.{needs}
 use native.Mathlib.Omega.{arith}
@@ -10,7 +10,7 @@ use Rattle.matrix.proofs.arithmetic.add_product_row.Statement.{statemen
 use Rattle.matrix.proofs.arithmetic.add_product_row.Tie as tie
 
 abbrev Inv-loop : tie.InvT-loop
-Inv-loop out₀ l a b r y₀ out y = (y ≤ l) × Plus out₀ (r * 5) l (mulM y (view a) (view b) r) out
+Inv-loop out₀ l a b r y₀ out y = (y ≤ l) × Plus out₀ (r * stride) l (mulM y (view a) (view b) r) out
 
 abbrev μ-loop : tie.MeasureT-loop
 μ-loop out₀ l a b r y₀ out y = l - y
@@ -43,20 +43,11 @@ add-scaled-requires c κs =
     let now = c .before .before in
     omega (arith, start now .pre, now .loop-test .taken, now .before .loop .inv .1 .long)
 
-add-y : tie.Need-add-y Inv-loop μ-loop
-add-y c = search needs
-
-loop-less : tie.Need-loop-less Inv-loop μ-loop
-loop-less c = search needs
-
 loop-again : tie.Need-loop-again Inv-loop μ-loop
 loop-again c =
     let now = c .before .before .before .before .before in
     let a = start now .args in
     (omega (arith, now .loop-test .taken), product-row-next (a .a .now) (a .b .now) (a .r) (now .before .loop .y) (now .before .loop .inv .1) (c .before .before .add-scaled .ensures))
-
-same-length : tie.Need-same-length Inv-loop μ-loop
-same-length c = search needs
 
 returns : tie.Need-returns Inv-loop μ-loop
 returns c =
@@ -77,8 +68,8 @@ add-product-row-spec =
     mul-add-scaled
     mul-add-scaled-2
     add-scaled-requires
-    add-y
-    loop-less
+    (λ c. search needs)
+    (λ c. search needs)
     loop-again
-    same-length
+    (λ c. search needs)
     returns)

@@ -4,7 +4,7 @@ use Prim.Native.Nat.{_-_}
 use borrow.Author.Needs.{needs}
 use Rattle.field.specs.Field.{add}
 use Rattle.matrix.specs.Matrix.{addM}
-use Rattle.matrix.specs.Block.{view}
+use Rattle.matrix.specs.Block.{view, blockBytes}
 use Rattle.matrix.specs.Filling.{Filling, filling-none, filling-next, filling-end}
 use Rattle.matrix.proofs.arithmetic.plus.Statement.{statement}
 use Rattle.matrix.proofs.arithmetic.plus.Tie as tie
@@ -13,31 +13,10 @@ abbrev Inv-loop : tie.InvT-loop
 Inv-loop l a b out₀ e₀ out e = Filling l (addM (view a) (view b)) out e
 
 abbrev μ-loop : tie.MeasureT-loop
-μ-loop l a b out₀ e₀ out e = 25 - e
+μ-loop l a b out₀ e₀ out e = blockBytes - e
 
 loop-holds : tie.Need-loop-holds Inv-loop μ-loop
 loop-holds c = filling-none _ refl
-
-entry-requires : tie.Need-entry-requires Inv-loop μ-loop
-entry-requires c κs = search needs
-
-entry-requires-2 : tie.Need-entry-requires-2 Inv-loop μ-loop
-entry-requires-2 c κs = search needs
-
-add-requires : tie.Need-add-requires Inv-loop μ-loop
-add-requires c κs = search needs
-
-within-requires : tie.Need-within-requires Inv-loop μ-loop
-within-requires c κs = search needs
-
-array-write-out : tie.Need-array-write-out Inv-loop μ-loop
-array-write-out c = search needs
-
-add-e : tie.Need-add-e Inv-loop μ-loop
-add-e c = search needs
-
-loop-less : tie.Need-loop-less Inv-loop μ-loop
-loop-less c = search needs
 
 loop-again : tie.Need-loop-again Inv-loop μ-loop
 unfolding addM
@@ -56,12 +35,12 @@ plus-spec =
     Inv-loop
     μ-loop
     loop-holds
-    entry-requires
-    entry-requires-2
-    add-requires
-    within-requires
-    array-write-out
-    add-e
-    loop-less
+    (λ c κs. search needs)
+    (λ c κs. search needs)
+    (λ c κs. search needs)
+    (λ c κs. search needs)
+    (λ c. search needs)
+    (λ c. search needs)
+    (λ c. search needs)
     loop-again
     returns)

@@ -4,7 +4,7 @@ use Prim.Native.Nat.{_-_, _≤_}
 use lib.ListN.{length}
 use Rattle.rows.specs.Zero.{zeros, length-zeros}
 use Rattle.matrix.specs.Matrix.{mulM}
-use Rattle.matrix.specs.Block.{view}
+use Rattle.matrix.specs.Block.{view, blockBytes, stride}
 use Rattle.rows.specs.PlusRows.{PlusRows, rows-none, rows-next}
 use Rattle.rows.specs.RowsJoin.{rows-end}
 use Rattle.matrix.specs.BlockRows.{blockRow, block-row, block-filled}
@@ -14,31 +14,13 @@ use Rattle.matrix.proofs.arithmetic.product.Statement.{statement}
 use Rattle.matrix.proofs.arithmetic.product.Tie as tie
 
 abbrev Inv-loop : tie.InvT-loop
-Inv-loop l a b out₀ r₀ out r = (length out ≡ 25) × ((r ≤ l) × PlusRows (zeros 25) 0 r 5 (blockRow l (mulM l (view a) (view b))) out)
+Inv-loop l a b out₀ r₀ out r = (length out ≡ blockBytes) × ((r ≤ l) × PlusRows (zeros blockBytes) 0 r stride (blockRow l (mulM l (view a) (view b))) out)
 
 abbrev μ-loop : tie.MeasureT-loop
 μ-loop l a b out₀ r₀ out r = l - r
 
 loop-holds : tie.Need-loop-holds Inv-loop μ-loop
-loop-holds c = (length-zeros 25, (omega arith, rows-none))
-
-slice-aggregate-add-product-row : tie.Need-slice-aggregate-add-product-row Inv-loop μ-loop
-slice-aggregate-add-product-row c = search needs
-
-slice-aggregate-add-product-row-2 : tie.Need-slice-aggregate-add-product-row-2 Inv-loop μ-loop
-slice-aggregate-add-product-row-2 c = search needs
-
-slice-aggregate-add-product-row-3 : tie.Need-slice-aggregate-add-product-row-3 Inv-loop μ-loop
-slice-aggregate-add-product-row-3 c = search needs
-
-add-product-row-requires : tie.Need-add-product-row-requires Inv-loop μ-loop
-add-product-row-requires c κs = search needs
-
-add-r : tie.Need-add-r Inv-loop μ-loop
-add-r c = search needs
-
-loop-less : tie.Need-loop-less Inv-loop μ-loop
-loop-less c = search needs
+loop-holds c = (length-zeros blockBytes, (omega arith, rows-none))
 
 loop-again : tie.Need-loop-again Inv-loop μ-loop
 loop-again c =
@@ -65,11 +47,11 @@ product-spec =
     Inv-loop
     μ-loop
     loop-holds
-    slice-aggregate-add-product-row
-    slice-aggregate-add-product-row-2
-    slice-aggregate-add-product-row-3
-    add-product-row-requires
-    add-r
-    loop-less
+    (λ c. search needs)
+    (λ c. search needs)
+    (λ c. search needs)
+    (λ c κs. search needs)
+    (λ c. search needs)
+    (λ c. search needs)
     loop-again
     returns)

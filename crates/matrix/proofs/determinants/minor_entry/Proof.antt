@@ -5,34 +5,22 @@ use Prim.Native.Nat.{_-_, _/_, _%_, _+_}
 use native.Mathlib.Omega.{arith}
 use borrow.Author.Needs.{needs}
 use Rattle.matrix.specs.Determinant.{skip, skip-lt, minor}
-use Rattle.matrix.specs.Block.{view, cell, inside, inside-row, inside-column}
+use Rattle.matrix.specs.Block.{view, cell, inside, inside-row, inside-column, stride}
 use Rattle.matrix.proofs.determinants.minor_entry.Statement.{statement}
 use Rattle.matrix.proofs.determinants.minor_entry.Tie as tie
-
-sub-inside : tie.Need-sub-inside
-sub-inside c = search needs
-
-inside-requires : tie.Need-inside-requires
-inside-requires c κs = search needs
-
-skip-requires : tie.Need-skip-requires
-skip-requires c κs = search needs
-
-add-entry : tie.Need-add-entry
-add-entry c = search needs
 
 entry-requires : tie.Need-entry-requires
 entry-requires c κs =
     let in' = c .before .before .before .args in
     let test : inside (in' .n - 1) (in' .e) ≡ true = sym (c .before .before .inside .ensures) ∙ c .before .if1 .taken in
-    omega (arith, inside-row _ _ test, inside-column _ _ test, skip-lt (in' .r) (in' .e / 5) (in' .n - 1) (inside-row _ _ test), c .skip .ensures)
+    omega (arith, inside-row _ _ test, inside-column _ _ test, skip-lt (in' .r) (in' .e / stride) (in' .n - 1) (inside-row _ _ test), c .skip .ensures)
 
 returns : tie.Need-returns
 unfolding cell minor
 returns c =
     let in' = c .before .before .before .before .args in
     let test : inside (in' .n - 1) (in' .e) ≡ true = sym (c .before .before .before .inside .ensures) ∙ c .before .before .if1 .taken in
-    rw test (c .entry .ensures ∙ ap (λ i. view (in' .m) i (in' .e % 5 + 1)) (c .before .skip .ensures))
+    rw test (c .entry .ensures ∙ ap (λ i. view (in' .m) i (in' .e % stride + 1)) (c .before .skip .ensures))
 
 returns-2 : tie.Need-returns-2
 unfolding cell
@@ -44,4 +32,4 @@ returns-2 c =
 pub minor-entry-spec : {M : Type 1} → statement M
 minor-entry-spec =
     tie.close
-    (tie.spec sub-inside inside-requires skip-requires add-entry entry-requires returns returns-2)
+    (tie.spec (λ c. search needs) (λ c κs. search needs) (λ c κs. search needs) (λ c. search needs) entry-requires returns returns-2)

@@ -3,7 +3,7 @@ use mathlib.Core.Path.{refl}
 use Prim.Native.Nat.{_-_}
 use borrow.Author.Needs.{needs}
 use Rattle.matrix.specs.Determinant.{minor}
-use Rattle.matrix.specs.Block.{view}
+use Rattle.matrix.specs.Block.{view, blockBytes}
 use Rattle.matrix.specs.Filling.{Filling, filling-none, filling-cell, filling-end}
 use Rattle.matrix.proofs.determinants.minor_of.Statement.{statement}
 use Rattle.matrix.proofs.determinants.minor_of.Tie as tie
@@ -12,22 +12,10 @@ abbrev Inv-loop : tie.InvT-loop
 Inv-loop n m r out₀ e₀ out e = Filling (n - 1) (minor (view m) r) out e
 
 abbrev μ-loop : tie.MeasureT-loop
-μ-loop n m r out₀ e₀ out e = 25 - e
+μ-loop n m r out₀ e₀ out e = blockBytes - e
 
 loop-holds : tie.Need-loop-holds Inv-loop μ-loop
 loop-holds c = filling-none _ refl
-
-minor-entry-requires : tie.Need-minor-entry-requires Inv-loop μ-loop
-minor-entry-requires c κs = search needs
-
-array-write-out : tie.Need-array-write-out Inv-loop μ-loop
-array-write-out c = search needs
-
-add-e : tie.Need-add-e Inv-loop μ-loop
-add-e c = search needs
-
-loop-less : tie.Need-loop-less Inv-loop μ-loop
-loop-less c = search needs
 
 loop-again : tie.Need-loop-again Inv-loop μ-loop
 loop-again c = filling-cell (c .before .before .loop .inv) (c .before .loop-test .taken) (c .minor-entry .ensures)
@@ -42,9 +30,9 @@ minor-of-spec =
     Inv-loop
     μ-loop
     loop-holds
-    minor-entry-requires
-    array-write-out
-    add-e
-    loop-less
+    (λ c κs. search needs)
+    (λ c. search needs)
+    (λ c. search needs)
+    (λ c. search needs)
     loop-again
     returns)

@@ -5,9 +5,6 @@ use Rattle.matrix.specs.Determinant.{skip}
 use Rattle.matrix.proofs.determinants.skip.Statement.{statement}
 use Rattle.matrix.proofs.determinants.skip.Tie as tie
 
-add-result : tie.Need-add-result
-add-result c = search needs
-
 returns : tie.Need-returns
 unfolding skip
 returns c = simp (lt-ltb _ _ (c .if1 .taken))
@@ -17,4 +14,4 @@ unfolding skip
 returns-2 c = simp (le-ltb _ _ (c .if1 .left))
 
 pub skip-spec : {M : Type 1} → statement M
-skip-spec = tie.close (tie.spec add-result returns returns-2)
+skip-spec = tie.close (tie.spec (λ c. search needs) returns returns-2)

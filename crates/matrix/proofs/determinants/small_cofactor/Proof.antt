@@ -9,20 +9,11 @@ use borrow.Author.Needs.{needs}
 use Rattle.matrix.proofs.determinants.small_cofactor.Statement.{statement}
 use Rattle.matrix.proofs.determinants.small_cofactor.Tie as tie
 
-skip-requires : tie.Need-skip-requires
-skip-requires c κs = search needs
-
-skip-requires-2 : tie.Need-skip-requires-2
-skip-requires-2 c κs = search needs
-
 entry-requires : tie.Need-entry-requires
 entry-requires c κs = omega (arith, c .before .skip .ensures, skip-lt (c .before .before .args .r) 0 1 (omega arith))
 
 entry-requires-2 : tie.Need-entry-requires-2
 entry-requires-2 c κs = omega (arith, c .before .skip2 .ensures, skip-lt (c .before .before .before .args .r) 1 2 (omega arith))
-
-mul-requires : tie.Need-mul-requires
-mul-requires c κs = search needs
 
 entry-requires-3 : tie.Need-entry-requires-3
 entry-requires-3 c κs = omega (arith, c .before .before .before .skip2 .ensures, skip-lt (c .before .before .before .before .before .args .r) 1 2 (omega arith))
@@ -31,12 +22,6 @@ entry-requires-4 : tie.Need-entry-requires-4
 entry-requires-4 c κs =
     let at = c .before .before .before .before .before in
     omega (arith, at .skip .ensures, skip-lt (at .before .args .r) 0 1 (omega arith))
-
-mul-requires-2 : tie.Need-mul-requires-2
-mul-requires-2 c κs = search needs
-
-add-requires : tie.Need-add-requires
-add-requires c κs = search needs
 
 returns : tie.Need-returns
 unfolding minor
@@ -58,13 +43,13 @@ pub small-cofactor-spec : {M : Type 1} → statement M
 small-cofactor-spec =
     tie.close
     (tie.spec
-    skip-requires
-    skip-requires-2
+    (λ c κs. search needs)
+    (λ c κs. search needs)
     entry-requires
     entry-requires-2
-    mul-requires
+    (λ c κs. search needs)
     entry-requires-3
     entry-requires-4
-    mul-requires-2
-    add-requires
+    (λ c κs. search needs)
+    (λ c κs. search needs)
     returns)

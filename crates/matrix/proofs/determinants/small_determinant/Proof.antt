@@ -10,35 +10,8 @@ use Rattle.matrix.proofs.determinants.small_determinant.Tie as tie
 returns : tie.Need-returns
 returns c = sym (det-none _ (c .if1 .taken))
 
-entry-requires : tie.Need-entry-requires
-entry-requires c κs = search needs
-
-mul-requires : tie.Need-mul-requires
-mul-requires c κs = search needs
-
 returns-2 : tie.Need-returns-2
 returns-2 c = c .mul .ensures ∙ ap (λ x. mul x 1) (c .before .entry .ensures) ∙ sym (det-one _ (c .before .before .if2 .taken))
-
-entry-requires-2 : tie.Need-entry-requires-2
-entry-requires-2 c κs = search needs
-
-entry-requires-3 : tie.Need-entry-requires-3
-entry-requires-3 c κs = search needs
-
-mul-requires-2 : tie.Need-mul-requires-2
-mul-requires-2 c κs = search needs
-
-entry-requires-4 : tie.Need-entry-requires-4
-entry-requires-4 c κs = search needs
-
-entry-requires-5 : tie.Need-entry-requires-5
-entry-requires-5 c κs = search needs
-
-mul-requires-3 : tie.Need-mul-requires-3
-mul-requires-3 c κs = search needs
-
-add-requires : tie.Need-add-requires
-add-requires c κs = search needs
 
 returns-3 : tie.Need-returns-3
 returns-3 c =
@@ -53,14 +26,14 @@ small-determinant-spec =
     tie.close
     (tie.spec
     returns
-    entry-requires
-    mul-requires
+    (λ c κs. search needs)
+    (λ c κs. search needs)
     returns-2
-    entry-requires-2
-    entry-requires-3
-    mul-requires-2
-    entry-requires-4
-    entry-requires-5
-    mul-requires-3
-    add-requires
+    (λ c κs. search needs)
+    (λ c κs. search needs)
+    (λ c κs. search needs)
+    (λ c κs. search needs)
+    (λ c κs. search needs)
+    (λ c κs. search needs)
+    (λ c κs. search needs)
     returns-3)

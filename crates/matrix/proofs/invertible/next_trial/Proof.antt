@@ -4,14 +4,8 @@ use borrow.Author.Needs.{needs}
 use Rattle.matrix.proofs.invertible.next_trial.Statement.{statement}
 use Rattle.matrix.proofs.invertible.next_trial.Tie as tie
 
-add-a : tie.Need-add-a
-add-a c = search needs
-
-shifted-requires : tie.Need-shifted-requires
-shifted-requires c κs = search needs
-
 returns : tie.Need-returns
 returns c = record { original = refl; a = refl; tried = c .shifted .ensures }
 
 pub next-trial-spec : {M : Type 1} → statement M
-next-trial-spec = tie.close (tie.spec add-a shifted-requires returns)
+next-trial-spec = tie.close (tie.spec (λ c. search needs) (λ c κs. search needs) returns)

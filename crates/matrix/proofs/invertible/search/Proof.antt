@@ -15,29 +15,14 @@ Inv-loop l trial₀ trial = (trial .original ≡ trial₀ .original) × Searchin
 abbrev μ-loop : tie.MeasureT-loop
 μ-loop l trial₀ trial = 15 - trial .a
 
-determinant-requires : tie.Need-determinant-requires Inv-loop μ-loop
-determinant-requires c κs = search needs
-
-cut-requires : tie.Need-cut-requires Inv-loop μ-loop
-cut-requires c κs = search needs
-
 returns : tie.Need-returns Inv-loop μ-loop
 returns c =
     let done = searching-stays _ _ (λ e. c .before .if1 .taken (c .before .before .determinant .ensures ∙ e)) (c .cut .ensures) in
     makes-done (rw (done .0)) refl (done .1)
 
-shifted-requires : tie.Need-shifted-requires Inv-loop μ-loop
-shifted-requires c κs = search needs
-
 loop-holds : tie.Need-loop-holds Inv-loop μ-loop
 loop-holds c =
     (refl, searching-start (sym (c .before .before .determinant .ensures) ∙ c .before .if1 .left) (c .shifted .ensures))
-
-determinant-requires-2 : tie.Need-determinant-requires-2 Inv-loop μ-loop
-determinant-requires-2 c κs = search needs
-
-refused-requires : tie.Need-refused-requires Inv-loop μ-loop
-refused-requires c κs = search needs
 
 returns-2 : tie.Need-returns-2 Inv-loop μ-loop
 returns-2 c =
@@ -76,13 +61,13 @@ search-spec =
     (tie.spec
     Inv-loop
     μ-loop
-    determinant-requires
-    cut-requires
+    (λ c κs. search needs)
+    (λ c κs. search needs)
     returns
-    shifted-requires
+    (λ c κs. search needs)
     loop-holds
-    determinant-requires-2
-    refused-requires
+    (λ c κs. search needs)
+    (λ c κs. search needs)
     returns-2
     next-trial-requires
     loop-less

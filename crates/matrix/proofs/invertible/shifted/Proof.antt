@@ -7,15 +7,6 @@ use Rattle.matrix.specs.Invertible.{shift}
 use Rattle.matrix.proofs.invertible.shifted.Statement.{statement}
 use Rattle.matrix.proofs.invertible.shifted.Tie as tie
 
-s-matrix-requires : tie.Need-s-matrix-requires
-s-matrix-requires c κs = search needs
-
-scaled-requires : tie.Need-scaled-requires
-scaled-requires c κs = search needs
-
-plus-requires : tie.Need-plus-requires
-plus-requires c κs = search needs
-
 returns : tie.Need-returns
 unfolding shift
 returns c =
@@ -25,4 +16,4 @@ returns c =
     c .plus .ensures ∙ block-same (same-add same-refl (same-trans multiple (same-scale (in' .args .a) s)))
 
 pub shifted-spec : {M : Type 1} → statement M
-shifted-spec = tie.close (tie.spec s-matrix-requires scaled-requires plus-requires returns)
+shifted-spec = tie.close (tie.spec (λ c κs. search needs) (λ c κs. search needs) (λ c κs. search needs) returns)

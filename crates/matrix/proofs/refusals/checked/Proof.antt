@@ -4,17 +4,14 @@ use mathlib.Core.Bool.{true, false}
 use native.Mathlib.Omega.{arith}
 use borrow.Author.Tests.{not-true, not-false}
 use borrow.Author.Needs.{needs}
-use Rattle.ground.specs.Answers.{lowest}
+use Rattle.ground.specs.Answers.{first}
 use Rattle.matrix.specs.Limits.{sizeAllowed, entriesAllowed}
 use Rattle.matrix.specs.LimitLaws.{allowed-most}
 use Rattle.matrix.proofs.refusals.checked.Statement.{statement}
 use Rattle.matrix.proofs.refusals.checked.Tie as tie
 
-size-allowed-requires : tie.Need-size-allowed-requires
-size-allowed-requires c κs = search needs
-
 returns : tie.Need-returns
-unfolding lowest
+unfolding first
 returns c =
     let size : sizeAllowed _ ≡ false = sym (c .before .size-allowed .ensures) ∙ not-true _ (c .if1 .taken) in
     rw size
@@ -23,14 +20,14 @@ entries-allowed-requires : tie.Need-entries-allowed-requires
 entries-allowed-requires c κs = omega (arith, allowed-most _ (sym (c .before .size-allowed .ensures) ∙ not-false _ (c .if1 .left)))
 
 returns-2 : tie.Need-returns-2
-unfolding lowest
+unfolding first
 returns-2 c =
     let size : sizeAllowed _ ≡ true = sym (c .before .before .before .size-allowed .ensures) ∙ not-false _ (c .before .before .if1 .left) in
     let elements : entriesAllowed _ _ ≡ false = sym (c .before .entries-allowed .ensures) ∙ not-true _ (c .if2 .taken) in
     rw (size, elements)
 
 returns-3 : tie.Need-returns-3
-unfolding lowest
+unfolding first
 returns-3 c =
     let size : sizeAllowed _ ≡ true = sym (c .before .before .before .size-allowed .ensures) ∙ not-false _ (c .before .before .if1 .left) in
     let elements : entriesAllowed _ _ ≡ true = sym (c .before .entries-allowed .ensures) ∙ not-false _ (c .if2 .left) in
@@ -38,4 +35,4 @@ returns-3 c =
 
 pub checked-spec : {M : Type 1} → statement M
 checked-spec =
-    tie.close (tie.spec size-allowed-requires returns entries-allowed-requires returns-2 returns-3)
+    tie.close (tie.spec (λ c κs. search needs) returns entries-allowed-requires returns-2 returns-3)

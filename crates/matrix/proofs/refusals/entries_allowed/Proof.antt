@@ -5,16 +5,16 @@ use Prim.Native.Nat.{ℕ, _<_, _≤_, _-_}
 use native.Mathlib.Omega.{arith}
 use borrow.Author.Count.{below-none, below-more}
 use borrow.Author.Needs.{needs}
-use Rattle.matrix.specs.Block.{view, cell, cell-kept}
+use Rattle.matrix.specs.Block.{view, cell, cell-kept, blockBytes}
 use Rattle.matrix.specs.LimitLaws.{cells-pass, cells-fail}
 use Rattle.matrix.proofs.refusals.entries_allowed.Statement.{statement}
 use Rattle.matrix.proofs.refusals.entries_allowed.Tie as tie
 
 abbrev Inv-loop : tie.InvT-loop
-Inv-loop l m e₀ e = (e ≤ 25) × ((k : ℕ) → k < e → cell l (view m) k < 16)
+Inv-loop l m e₀ e = (e ≤ blockBytes) × ((k : ℕ) → k < e → cell l (view m) k < 16)
 
 abbrev μ-loop : tie.MeasureT-loop
-μ-loop l m e₀ e = 25 - e
+μ-loop l m e₀ e = blockBytes - e
 
 -- what was kept is the cell
 kept : (c : tie.After-within Inv-loop μ-loop)
@@ -24,20 +24,8 @@ kept c = cell-kept _ _ _ (c .within .ensures) (λ hr hc. c .before .entry .ensur
 loop-holds : tie.Need-loop-holds Inv-loop μ-loop
 loop-holds c = (omega arith, below-none _)
 
-entry-requires : tie.Need-entry-requires Inv-loop μ-loop
-entry-requires c κs = search needs
-
-within-requires : tie.Need-within-requires Inv-loop μ-loop
-within-requires c κs = search needs
-
 returns : tie.Need-returns Inv-loop μ-loop
 returns c = sym (cells-fail _ _ (c .before .before .before .before .loop .e) (omega (arith, kept (c .before))))
-
-add-e : tie.Need-add-e Inv-loop μ-loop
-add-e c = search needs
-
-loop-less : tie.Need-loop-less Inv-loop μ-loop
-loop-less c = search needs
 
 loop-again : tie.Need-loop-again Inv-loop μ-loop
 loop-again c = (omega arith, below-more _ _ (c .before .before .before .before .loop .inv .1) (omega (arith, kept (c .before))))
@@ -52,10 +40,10 @@ entries-allowed-spec =
     Inv-loop
     μ-loop
     loop-holds
-    entry-requires
-    within-requires
+    (λ c κs. search needs)
+    (λ c κs. search needs)
     returns
-    add-e
-    loop-less
+    (λ c. search needs)
+    (λ c. search needs)
     loop-again
     returns-2)

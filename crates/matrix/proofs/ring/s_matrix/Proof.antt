@@ -2,6 +2,7 @@
 use mathlib.Core.Path.{refl, sym, _∙_}
 use Prim.Native.Nat.{_-_}
 use borrow.Author.Needs.{needs}
+use Rattle.matrix.specs.Block.{blockBytes}
 use Rattle.matrix.specs.Steps.{S-inside}
 use Rattle.matrix.specs.RingElements.{S}
 use Rattle.matrix.specs.Filling.{Filling, filling-none, filling-inside, filling-end}
@@ -12,25 +13,10 @@ abbrev Inv-loop : tie.InvT-loop
 Inv-loop l out₀ e₀ out e = Filling l (S l) out e
 
 abbrev μ-loop : tie.MeasureT-loop
-μ-loop l out₀ e₀ out e = 25 - e
+μ-loop l out₀ e₀ out e = blockBytes - e
 
 loop-holds : tie.Need-loop-holds Inv-loop μ-loop
 loop-holds c = filling-none _ refl
-
-s-entry-requires : tie.Need-s-entry-requires Inv-loop μ-loop
-s-entry-requires c κs = search needs
-
-within-requires : tie.Need-within-requires Inv-loop μ-loop
-within-requires c κs = search needs
-
-array-write-out : tie.Need-array-write-out Inv-loop μ-loop
-array-write-out c = search needs
-
-add-e : tie.Need-add-e Inv-loop μ-loop
-add-e c = search needs
-
-loop-less : tie.Need-loop-less Inv-loop μ-loop
-loop-less c = search needs
 
 loop-again : tie.Need-loop-again Inv-loop μ-loop
 loop-again c =
@@ -47,10 +33,10 @@ s-matrix-spec =
     Inv-loop
     μ-loop
     loop-holds
-    s-entry-requires
-    within-requires
-    array-write-out
-    add-e
-    loop-less
+    (λ c κs. search needs)
+    (λ c κs. search needs)
+    (λ c. search needs)
+    (λ c. search needs)
+    (λ c. search needs)
     loop-again
     returns)

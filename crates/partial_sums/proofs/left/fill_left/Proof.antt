@@ -4,7 +4,7 @@ use Prim.Native.Nat.{_+_, _*_, _-_, _≤_}
 use Rattle.partial_sums.specs.Products.{Stacking, stacking-none, stacking-next, stacking-end}
 use Rattle.partial_sums.specs.LeftRight.{leftRow}
 use Rattle.partial_sums.specs.Filled.{left-filled}
-use Rattle.partial_sums.specs.Places.{TableSizes, table-sizes, stack-fits}
+use Rattle.partial_sums.specs.SumPlaces.{TableSizes, table-sizes, stack-fits}
 use borrow.Author.Needs.{needs}
 use native.Mathlib.Omega.{arith}
 use Rattle.partial_sums.proofs.left.fill_left.Statement.{statement}
@@ -55,19 +55,10 @@ add-left-index-requires c κs =
       s .pre .1,
     )
 
-add-i : tie.Need-add-i Inv-loop μ-loop
-add-i c = search needs
-
-loop-less : tie.Need-loop-less Inv-loop μ-loop
-loop-less c = search needs
-
 loop-again : tie.Need-loop-again Inv-loop μ-loop
 loop-again c =
     let now = c .before .before .before .before in
     stacking-next (now .before .loop .inv) (now .loop-test .taken) refl (c .before .before .add-left-index .ensures)
-
-same-length : tie.Need-same-length Inv-loop μ-loop
-same-length c = search needs
 
 returns : tie.Need-returns Inv-loop μ-loop
 returns c =
@@ -88,8 +79,8 @@ fill-left-spec =
     mul-add-left-index-3
     mul-add-left-index-4
     add-left-index-requires
-    add-i
-    loop-less
+    (λ c. search needs)
+    (λ c. search needs)
     loop-again
-    same-length
+    (λ c. search needs)
     returns)

@@ -48,9 +48,6 @@ add-blocks-requires c κs = let s = start (c .before) in
 add-y : tie.Need-add-y Inv-loop μ-loop
 add-y c = omega (arith, turn (c .before .before .before .before))
 
-loop-less : tie.Need-loop-less Inv-loop μ-loop
-loop-less c = search needs
-
 loop-again : tie.Need-loop-again Inv-loop μ-loop
 loop-again c = let now = c .before .before .before .before in
     multiplying-next (now .before .loop .inv) (now .loop-test .taken) (c .before .before .add-blocks .kept .0) (c .before .before .add-blocks .ensures)
@@ -75,7 +72,7 @@ add-products-spec =
     add-add-blocks-2
     add-blocks-requires
     add-y
-    loop-less
+    (λ c. search needs)
     loop-again
     same-length
     returns)

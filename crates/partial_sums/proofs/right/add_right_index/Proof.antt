@@ -2,11 +2,11 @@
 use Prim.Native.Nat.{_*_}
 use lib.ListN.{length}
 use Rattle.rows.specs.PlusRows.{rows-then}
-use Rattle.tables.specs.Rooms.{kept-room}
+use Rattle.sets.specs.Rooms.{kept-room}
 use Rattle.tables.specs.Sums.{transposed-loaded}
 use Rattle.partial_sums.specs.Products.{products-at}
-use Rattle.tables.specs.Numbers.{PublicPlaces, public-places, number-within}
-use Rattle.partial_sums.specs.Places.{TableSizes, table-sizes}
+use Rattle.streams.specs.Numbers.{PublicPlaces, public-places, number-within}
+use Rattle.partial_sums.specs.SumPlaces.{TableSizes, table-sizes}
 use native.Mathlib.Omega.{arith}
 use borrow.Author.Needs.{needs}
 use Rattle.partial_sums.proofs.right.add_right_index.Statement.{statement}
@@ -54,9 +54,6 @@ add-transposed-requires c κs =
       (omega (arith, s .pre .1 .0 .1 .1), (s .pre .1 .1, sizes s .rows)),
     )
 
-same-length : tie.Need-same-length
-same-length c = search needs
-
 returns : tie.Need-returns
 returns c = let s = c .before .before .before .before .before .before .before .before .before .before .before .before .before .before in
     let a = s .args in
@@ -78,5 +75,5 @@ add-right-index-spec =
     mul-add-transposed-2
     mul-add-transposed-3
     add-transposed-requires
-    same-length
+    (λ c. search needs)
     returns)

@@ -2,12 +2,13 @@
 use mathlib.Core.Path.{_≡_, refl}
 use Prim.Native.Nat.{_+_, _*_, _-_, _≤_}
 use lib.ListN.{length}
+use Rattle.sets.specs.Rooms.{vinegarPowersRoom}
 use Rattle.rows.specs.Zero.{length-zeros}
 use Rattle.tables.specs.Sums.{transposed-loaded}
 use Rattle.partial_sums.specs.Products.{Stacking, stacking-none, stacking-next, stacking-end}
 use Rattle.partial_sums.specs.LeftRight.{rightRow, sumsRow}
 use Rattle.partial_sums.specs.Filled.{right-filled, sums-filled}
-use Rattle.partial_sums.specs.Places.{TableSizes, table-sizes, stack-fits}
+use Rattle.partial_sums.specs.SumPlaces.{TableSizes, table-sizes, stack-fits}
 use borrow.Author.Needs.{needs}
 use native.Mathlib.Omega.{arith}
 use Rattle.partial_sums.proofs.right.fill_by_multiples.Statement.{statement}
@@ -15,7 +16,7 @@ use Rattle.partial_sums.proofs.right.fill_by_multiples.Tie as tie
 
 abbrev Inv-loop : tie.InvT-loop
 Inv-loop right₀ sums₀ set public x t multiples o l y₀ i₀ right sums y i =
-    (length y ≡ 4800)
+    (length y ≡ vinegarPowersRoom)
     × (Stacking right₀ (set .o * set .l) (set .l * set .l) (set .o) (rightRow set public x t) i right
     × Stacking sums₀ (set .l * set .l) (set .l * set .l) (set .o) (sumsRow set public x) i sums)
 
@@ -42,10 +43,7 @@ right-stack c =
     stack-fits (set .o * set .l) (set .l * set .l) (c .loop-test .taken)
 
 loop-holds : tie.Need-loop-holds Inv-loop μ-loop
-loop-holds c = (length-zeros 4800, (stacking-none, stacking-none))
-
-slice-aggregate-load-products : tie.Need-slice-aggregate-load-products Inv-loop μ-loop
-slice-aggregate-load-products c = search needs
+loop-holds c = (length-zeros vinegarPowersRoom, (stacking-none, stacking-none))
 
 load-products-requires : tie.Need-load-products-requires Inv-loop μ-loop
 load-products-requires c κs =
@@ -76,9 +74,6 @@ mul-add-transposed-6 c = omega (arith, sizes (c .before .before .before .before)
 mul-add-transposed-7 : tie.Need-mul-add-transposed-7 Inv-loop μ-loop
 mul-add-transposed-7 c = omega (arith, sizes (c .before .before .before .before .before) .vl)
 
-slice-aggregate-add-transposed : tie.Need-slice-aggregate-add-transposed Inv-loop μ-loop
-slice-aggregate-add-transposed c = search needs
-
 add-transposed-requires : tie.Need-add-transposed-requires Inv-loop μ-loop
 add-transposed-requires c κs =
     let now = c .before .before .before .before .before .before in
@@ -102,9 +97,6 @@ mul-add-right-index-4 c =
     let now = c .before .before .before .before .before .before .before .before .before .before in
     omega (arith, right-stack now, sizes now .right)
 
-slice-aggregate-add-right-index : tie.Need-slice-aggregate-add-right-index Inv-loop μ-loop
-slice-aggregate-add-right-index c = search needs
-
 add-right-index-requires : tie.Need-add-right-index-requires Inv-loop μ-loop
 add-right-index-requires c κs =
     let now = c .before .before .before .before .before .before .before .before .before .before .before in
@@ -115,12 +107,6 @@ add-right-index-requires c κs =
       (s .pre .0 .0, (now .loop-test .taken, omega (arith, right-stack now, s .pre .0 .1 .0, at .loop .inv .1 .0 .so-far .long, cleared .kept .0))),
       ((s .pre .1 .0 .0, (s .pre .1 .1 .0, s .pre .1 .0 .1 .1)), omega (arith, sizes now .vlll, loaded .kept .0, at .loop .inv .0)),
     )
-
-add-i : tie.Need-add-i Inv-loop μ-loop
-add-i c = search needs
-
-loop-less : tie.Need-loop-less Inv-loop μ-loop
-loop-less c = search needs
 
 loop-again : tie.Need-loop-again Inv-loop μ-loop
 loop-again c =
@@ -136,12 +122,6 @@ loop-again c =
             (transposed-loaded (a .x .now) 0 (a .set .v * a .set .l) (c .before .before .before .before .before .before .before .add-transposed .ensures) (loaded .ensures _ of-x)),
       ),
     )
-
-same-length : tie.Need-same-length Inv-loop μ-loop
-same-length c = search needs
-
-same-length-2 : tie.Need-same-length-2 Inv-loop μ-loop
-same-length-2 c = search needs
 
 returns : tie.Need-returns Inv-loop μ-loop
 returns c =
@@ -162,7 +142,7 @@ fill-by-multiples-spec =
     (λ _ _. tt)
     (λ _ _. tt)
     loop-holds
-    slice-aggregate-load-products
+    (λ c. search needs)
     load-products-requires
     mul-add-transposed
     mul-add-transposed-2
@@ -171,17 +151,17 @@ fill-by-multiples-spec =
     mul-add-transposed-5
     mul-add-transposed-6
     mul-add-transposed-7
-    slice-aggregate-add-transposed
+    (λ c. search needs)
     add-transposed-requires
     mul-add-right-index
     mul-add-right-index-2
     mul-add-right-index-3
     mul-add-right-index-4
-    slice-aggregate-add-right-index
+    (λ c. search needs)
     add-right-index-requires
-    add-i
-    loop-less
+    (λ c. search needs)
+    (λ c. search needs)
     loop-again
-    same-length
-    same-length-2
+    (λ c. search needs)
+    (λ c. search needs)
     returns)

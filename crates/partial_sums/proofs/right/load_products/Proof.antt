@@ -3,8 +3,8 @@ use Prim.Native.Nat.{_*_}
 use lib.ListN.{length}
 use Rattle.tables.specs.Sums.{zero-rows-from}
 use Rattle.partial_sums.specs.Products.{products-at}
-use Rattle.tables.specs.Numbers.{PublicPlaces, public-places, number-within}
-use Rattle.partial_sums.specs.Places.{TableSizes, table-sizes}
+use Rattle.streams.specs.Numbers.{PublicPlaces, public-places, number-within}
+use Rattle.partial_sums.specs.SumPlaces.{TableSizes, table-sizes}
 use native.Mathlib.Omega.{arith}
 use borrow.Author.Needs.{needs}
 use Rattle.partial_sums.proofs.right.load_products.Statement.{statement}
@@ -16,9 +16,6 @@ places s = public-places (s .pre .0 .0) (s .pre .0 .1 .0) (s .pre .1 .0)
 
 sizes : (s : tie.Start) → TableSizes (s .args .set)
 sizes s = table-sizes (s .pre .0 .0)
-
-clear-requires : tie.Need-clear-requires
-clear-requires c κs = search needs
 
 p11-number-requires : tie.Need-p11-number-requires
 p11-number-requires c κs =
@@ -38,9 +35,6 @@ add-products-requires c κs = let s = c .before .before .before .before .before 
       (bounds .products .vll, (sizes s .positive-v, (sizes s .positive-l, bounds .limits .l-most))),
     )
 
-same-length : tie.Need-same-length
-same-length c = search needs
-
 returns : tie.Need-returns
 returns c = let a = c .before .before .before .before .before .before .before .before .before .before .before .before .args in
     let set = a .set in
@@ -52,9 +46,9 @@ pub load-products-spec : {M : Type 1} → statement M
 load-products-spec =
     tie.close
     (tie.spec
-    clear-requires
+    (λ c κs. search needs)
     p11-number-requires
     mul-add-products
     add-products-requires
-    same-length
+    (λ c. search needs)
     returns)

@@ -3,8 +3,5 @@ use native.Mathlib.Omega.{arith}
 use Rattle.sets.proofs.count.private_count.Statement.{statement}
 use Rattle.sets.proofs.count.private_count.Tie as tie
 
-returns : tie.Need-returns
-returns c = omega arith
-
 pub private-count-spec : {M : Type 1} → statement M
-private-count-spec = tie.close (tie.spec (λ c. omega arith) (λ c. omega arith) returns)
+private-count-spec = tie.close (tie.spec (λ c. omega arith) (λ c. omega arith) (λ c. omega arith))

@@ -3,8 +3,5 @@ use native.Mathlib.Omega.{arith}
 use Rattle.sets.proofs.count.signature_count.Statement.{statement}
 use Rattle.sets.proofs.count.signature_count.Tie as tie
 
-returns : tie.Need-returns
-returns c = omega arith
-
 pub signature-count-spec : {M : Type 1} → statement M
-signature-count-spec = tie.close (tie.spec (λ c. omega arith) (λ c. omega arith) (λ c. omega arith) returns)
+signature-count-spec = tie.close (tie.spec (λ c. omega arith) (λ c. omega arith) (λ c. omega arith) (λ c. omega arith))

@@ -3,8 +3,5 @@ use native.Mathlib.Omega.{arith}
 use Rattle.sets.proofs.count.terms.Statement.{statement}
 use Rattle.sets.proofs.count.terms.Tie as tie
 
-returns : tie.Need-returns
-returns c = omega arith
-
 pub terms-spec : {M : Type 1} → statement M
-terms-spec = tie.close (tie.spec (λ c. omega arith) (λ c. omega arith) returns)
+terms-spec = tie.close (tie.spec (λ c. omega arith) (λ c. omega arith) (λ c. omega arith))

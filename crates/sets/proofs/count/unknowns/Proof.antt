@@ -3,8 +3,5 @@ use native.Mathlib.Omega.{arith}
 use Rattle.sets.proofs.count.unknowns.Statement.{statement}
 use Rattle.sets.proofs.count.unknowns.Tie as tie
 
-returns : tie.Need-returns
-returns c = omega arith
-
 pub unknowns-spec : {M : Type 1} → statement M
-unknowns-spec = tie.close (tie.spec (λ c. omega arith) (λ c. omega arith) returns)
+unknowns-spec = tie.close (tie.spec (λ c. omega arith) (λ c. omega arith) (λ c. omega arith))

@@ -3,8 +3,5 @@ use native.Mathlib.Omega.{arith}
 use Rattle.sets.proofs.count.vinegar_count.Statement.{statement}
 use Rattle.sets.proofs.count.vinegar_count.Tie as tie
 
-returns : tie.Need-returns
-returns c = omega arith
-
 pub vinegar-count-spec : {M : Type 1} → statement M
-vinegar-count-spec = tie.close (tie.spec (λ c. omega arith) (λ c. omega arith) returns)
+vinegar-count-spec = tie.close (tie.spec (λ c. omega arith) (λ c. omega arith) (λ c. omega arith))

@@ -3,8 +3,5 @@ use native.Mathlib.Omega.{arith}
 use Rattle.sets.proofs.length.bytes_for.Statement.{statement}
 use Rattle.sets.proofs.length.bytes_for.Tie as tie
 
-returns : tie.Need-returns
-returns c = omega arith
-
 pub bytes-for-spec : {M : Type 1} → statement M
-bytes-for-spec = tie.close (tie.spec (λ c. omega arith) returns)
+bytes-for-spec = tie.close (tie.spec (λ c. omega arith) (λ c. omega arith))

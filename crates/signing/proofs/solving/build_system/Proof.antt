@@ -3,7 +3,7 @@
 use mathlib.Core.Path.{refl, sym}
 use Rattle.scheme.specs.Streams.{vinegarOf}
 use Rattle.system.specs.System.{system-holds}
-use Rattle.tables.specs.Rooms.{kept-room, powers-room, private-room, vinegar-room, left-room, right-room, sums-room}
+use Rattle.sets.specs.Rooms.{kept-room, powers-room, private-room, vinegar-powers-room, left-room, right-room, sums-room}
 use Rattle.signing.specs.Building.{built-from, system-room}
 use native.Mathlib.Omega.{arith}
 use Rattle.signing.proofs.solving.build_system.Statement.{statement}
@@ -26,7 +26,7 @@ private-table-requires c κs =
     let s = c .before .before .before .before .before .before .before .before .before .before .before in
     let b = s .pre .0 .0 in
     let sp = c .before .before .before .powers-of-s in
-    (b, ((s .pre .1 .0 .1 .1, private-room b, kept-room (powers-room b) (sp .kept .0)), sp .ensures .holds))
+    (b, ((s .pre .1 .0 .1, private-room b, kept-room (powers-room b) (sp .kept .0)), sp .ensures .holds))
 
 slice-aggregate-load-vinegar : tie.Need-slice-aggregate-load-vinegar
 slice-aggregate-load-vinegar c = refl
@@ -39,7 +39,7 @@ load-vinegar-requires c κs =
     let s = c .before .before .before .before .before .before .before .before .before .before .before .before .before .before .before in
     let b = s .pre .0 .0 in
     let sp = c .before .before .before .before .before .before .before .powers-of-s in
-    ((b, s .pre .1 .1 .0), (vinegar-room b, (kept-room (powers-room b) (sp .kept .0), sp .ensures .holds)))
+    ((b, s .pre .1 .1 .0), (vinegar-powers-room b, (kept-room (powers-room b) (sp .kept .0), sp .ensures .holds)))
 
 slice-aggregate-fill-left : tie.Need-slice-aggregate-fill-left
 slice-aggregate-fill-left c = refl
@@ -60,7 +60,7 @@ fill-left-requires c κs =
       (
         begin .pre .1 .0 .0,
         (
-          kept-room (vinegar-room b) (at-load-vinegar .load-vinegar .kept .0),
+          kept-room (vinegar-powers-room b) (at-load-vinegar .load-vinegar .kept .0),
           kept-room (private-room b)
               (at-private-table .private-table .kept .0),
         ),
@@ -85,7 +85,7 @@ fill-right-requires c κs =
     let at-private-table = at-load-vinegar .before .before .before .before in
     let begin = at-private-table .before .before .before .before .before .before .before .before .before .before .before .before in
     let b = begin .pre .0 .0 in
-    let x = kept-room (vinegar-room b) (at-load-vinegar .load-vinegar .kept .0) in
+    let x = kept-room (vinegar-powers-room b) (at-load-vinegar .load-vinegar .kept .0) in
     let t = kept-room (private-room b) (at-private-table .private-table .kept .0) in
     ((b, (right-room b, sums-room b)), (begin .pre .1 .0 .0, (x, t)))
 
@@ -116,7 +116,7 @@ build-requires c κs =
     let right = kept-room (right-room b) (at-fill-right .fill-right .kept .0) in
     let sp = kept-room (powers-room b) (at-powers-of-s .powers-of-s .kept .0) in
     let sums = kept-room (sums-room b) (at-fill-right .fill-right .kept .1 .0) in
-    ((b, system-room (begin .args .set) (begin .pre .1 .1 .1 .1)), ((begin .pre .1 .0 .1 .0, (begin .pre .0 .1, begin .pre .1 .1 .1 .0)), (left, (right, (sp, sums)))))
+    ((b, system-room (begin .args .set) (begin .pre .1 .1 .1 .1)), ((begin .pre .0 .1, (begin .pre .1 .1 .1 .0, sums)), record { left-fits = left; right-fits = right; powers-fit = sp }))
 
 same-length : tie.Need-same-length
 same-length c = c .before .before .build .kept .0

@@ -1,10 +1,9 @@
--- `signing::read_solution` meets its contract. The invariant: the first e bytes are read (`segment-more`).
+-- `signing::read_solution` meets its contract. The invariant: the first e bytes are read (`fill-next`).
 use Prim.Native.Nat.{_+_, _*_, _-_, _≤_, _<_}
 use mathlib.Core.Path.{refl}
 use lib.Arith.{digits-lt}
-use Rattle.ground.specs.Segment.{Segment, segment-none}
+use Rattle.ground.specs.Segment.{Segment, segment-none, fill-next, segment-end}
 use Rattle.linear.specs.System.{at}
-use Rattle.signing.specs.Writing.{segment-more, segment-end}
 use borrow.Author.Needs.{needs}
 use native.Mathlib.Omega.{arith}
 use Rattle.signing.proofs.writing.read_solution.Statement.{statement}
@@ -24,9 +23,6 @@ cell c = let next : c .before .before .args .n < c .before .before .args .n + 1 
 loop-holds : tie.Need-loop-holds Inv-loop μ-loop
 loop-holds c = (omega arith, segment-none)
 
-add-oil : tie.Need-add-oil Inv-loop μ-loop
-add-oil c = search needs
-
 mul-oil : tie.Need-mul-oil Inv-loop μ-loop
 mul-oil c = omega (arith, cell c)
 
@@ -36,24 +32,12 @@ add-oil-2 c = omega (arith, cell c)
 shared-slice-read-oil : tie.Need-shared-slice-read-oil Inv-loop μ-loop
 shared-slice-read-oil c = omega (arith, cell (c .before))
 
-slice-write-oil : tie.Need-slice-write-oil Inv-loop μ-loop
-slice-write-oil c = search needs
-
-add-e : tie.Need-add-e Inv-loop μ-loop
-add-e c = search needs
-
-loop-less : tie.Need-loop-less Inv-loop μ-loop
-loop-less c = search needs
-
 loop-again : tie.Need-loop-again Inv-loop μ-loop
 unfolding at
 loop-again c =
     let now = c .before .before in
     let n = now .before .args .n in
-    (omega arith, segment-more (now .loop .inv .1) (omega arith) (at (now .before .args .g .now) n (now .loop .e) n) refl)
-
-same-length : tie.Need-same-length Inv-loop μ-loop
-same-length c = search needs
+    (omega arith, fill-next (now .loop .inv .1) (omega arith) (at (now .before .args .g .now) n (now .loop .e) n) refl)
 
 returns : tie.Need-returns Inv-loop μ-loop
 returns c = segment-end (c .before .loop .inv .1) (c .before .loop .inv .0) (c .loop-test .left)
@@ -65,13 +49,13 @@ read-solution-spec =
     Inv-loop
     μ-loop
     loop-holds
-    add-oil
+    (λ c. search needs)
     mul-oil
     add-oil-2
     shared-slice-read-oil
-    slice-write-oil
-    add-e
-    loop-less
+    (λ c. search needs)
+    (λ c. search needs)
+    (λ c. search needs)
     loop-again
-    same-length
+    (λ c. search needs)
     returns)

@@ -1,7 +1,7 @@
 -- `signing::solution_list` meets its contract. T12 as a table, the vinegar unpacked, plus T12 times the oil, then the oil (`solution-from`).
 -- A table that is lent again is as long as it was made: each call keeps its length (`kept`).
 use mathlib.Core.Path.{refl, sym, _∙_}
-use Rattle.tables.specs.Rooms.{kept-room, powers-room, private-room}
+use Rattle.sets.specs.Rooms.{kept-room, powers-room, private-room}
 use Rattle.signing.specs.Emitting.{vinegar-within, counted, counted-from-start, vinegar-first, vinegar-rows, oil-rows, oil-last, solution-from}
 use native.Mathlib.Omega.{arith}
 use Rattle.signing.proofs.writing.solution_list.Statement.{statement}

@@ -2,8 +2,7 @@
 use Prim.Native.Nat.{_-_, _≤_}
 use mathlib.Core.Path.{refl}
 use lib.ListN.{length, getD}
-use Rattle.ground.specs.Segment.{Segment, segment-none, segment-next}
-use Rattle.signing.specs.Writing.{segment-end}
+use Rattle.ground.specs.Segment.{Segment, segment-none, segment-next, segment-end}
 use borrow.Author.Needs.{needs}
 use native.Mathlib.Omega.{arith}
 use Rattle.signing.proofs.writing.write_salt.Statement.{statement}
@@ -18,28 +17,10 @@ abbrev μ-loop : tie.MeasureT-loop
 loop-holds : tie.Need-loop-holds Inv-loop μ-loop
 loop-holds c = (omega arith, segment-none)
 
-shared-slice-read-output : tie.Need-shared-slice-read-output Inv-loop μ-loop
-shared-slice-read-output c = search needs
-
-add-output : tie.Need-add-output Inv-loop μ-loop
-add-output c = search needs
-
-slice-write-output : tie.Need-slice-write-output Inv-loop μ-loop
-slice-write-output c = search needs
-
-add-k : tie.Need-add-k Inv-loop μ-loop
-add-k c = search needs
-
-loop-less : tie.Need-loop-less Inv-loop μ-loop
-loop-less c = search needs
-
 loop-again : tie.Need-loop-again Inv-loop μ-loop
 loop-again c =
     let now = c .before .before in
     (omega arith, segment-next (now .loop .inv .1) (omega arith) (getD (now .before .args .salt .now) (now .loop .k) 0) refl)
-
-same-length : tie.Need-same-length Inv-loop μ-loop
-same-length c = search needs
 
 returns : tie.Need-returns Inv-loop μ-loop
 returns c = segment-end (c .before .loop .inv .1) (c .before .loop .inv .0) (c .loop-test .left)
@@ -51,11 +32,11 @@ write-salt-spec =
     Inv-loop
     μ-loop
     loop-holds
-    shared-slice-read-output
-    add-output
-    slice-write-output
-    add-k
-    loop-less
+    (λ c. search needs)
+    (λ c. search needs)
+    (λ c. search needs)
+    (λ c. search needs)
+    (λ c. search needs)
     loop-again
-    same-length
+    (λ c. search needs)
     returns)

@@ -3,14 +3,8 @@ use borrow.Author.Needs.{needs}
 use Rattle.snova.proofs.interface.snova_sign.Statement.{statement}
 use Rattle.snova.proofs.interface.snova_sign.Tie as tie
 
-same-length : tie.Need-same-length
-same-length c = search needs
-
-same-length-2 : tie.Need-same-length-2
-same-length-2 c = search needs
-
 returns : tie.Need-returns
 returns c = let called = c .before .before .before .before .before .sign in record { answer = called .result; meets = called .ensures; is = c .number .ensures }
 
 pub snova-sign-spec : {M : Type 1} → statement M
-snova-sign-spec = tie.close (tie.spec (λ _ _. tt) (λ _ _. tt) same-length same-length-2 returns)
+snova-sign-spec = tie.close (tie.spec (λ _ _. tt) (λ _ _. tt) (λ c. search needs) (λ c. search needs) returns)

@@ -1,6 +1,7 @@
 -- `system::blocks::add_tile` meets its contract. The invariant: the first r rows have gained. Rests on BlockRows and tables' Sums.
 use Prim.Native.Nat.{_-_}
 use lib.ListN.{length}
+use Rattle.matrix.specs.Block.{stride}
 use Rattle.rows.specs.Tile.{tile}
 use Rattle.matrix.specs.Matrix.{scaleM}
 use Rattle.tables.specs.Sums.{Adding, adding-none, adding-next-at, adding-end}
@@ -12,7 +13,7 @@ use Rattle.system.proofs.blocks.add_tile.Statement.{statement}
 use Rattle.system.proofs.blocks.add_tile.Tie as tie
 
 abbrev Inv-loop : tie.InvT-loop
-Inv-loop sum₀ l factor table w j k r₀ sum r = Adding sum₀ 0 l 5 (blockRow l (scaleM factor (tile l w table j k))) r sum
+Inv-loop sum₀ l factor table w j k r₀ sum r = Adding sum₀ 0 l stride (blockRow l (scaleM factor (tile l w table j k))) r sum
 
 abbrev μ-loop : tie.MeasureT-loop
 μ-loop sum₀ l factor table w j k r₀ sum r = l - r
@@ -51,12 +52,6 @@ add-scaled-requires c κs =
     let now = c .before in
     omega (arith, turn now, now .loop-test .taken, now .before .loop .inv .so-far .long, start now .pre .0, start now .pre .1 .0)
 
-add-r : tie.Need-add-r Inv-loop μ-loop
-add-r c = search needs
-
-loop-less : tie.Need-loop-less Inv-loop μ-loop
-loop-less c = search needs
-
 loop-again : tie.Need-loop-again Inv-loop μ-loop
 loop-again c =
     let now = c .before .before .before .before in
@@ -64,9 +59,6 @@ loop-again c =
     let a = s .args in
     adding-next-at (now .before .loop .inv) (now .loop-test .taken) (omega arith)
     (tile-row (a .l) (a .w) (a .table .now) (a .j) (a .k) (now .before .loop .r) (a .factor) (s .pre .0) (c .before .before .add-scaled .ensures))
-
-same-length : tie.Need-same-length Inv-loop μ-loop
-same-length c = search needs
 
 returns : tie.Need-returns Inv-loop μ-loop
 returns c = adding-end (c .before .loop .inv) (c .loop-test .left)
@@ -85,8 +77,8 @@ add-tile-spec =
     mul-add-scaled-4
     add-add-scaled-2
     add-scaled-requires
-    add-r
-    loop-less
+    (λ c. search needs)
+    (λ c. search needs)
     loop-again
-    same-length
+    (λ c. search needs)
     returns)

@@ -1,27 +1,26 @@
 -- `system::equation::add_target` meets its contract. The invariant: the last bytes of the first e rows have gained. Rests on Equation.
-use mathlib.Core.Path.{_≡_, refl, ap, sym, _∙_}
+use mathlib.Core.Path.{_≡_, refl}
 use Prim.Native.Nat.{_+_, _*_, _-_, _<_}
 use lib.ListN.{length}
 use lib.Arith.{digits-lt}
-use Rattle.matrix.specs.Block.{length-block}
-use Rattle.terms.specs.Terms.{equationFrom}
+use Rattle.matrix.specs.Block.{blockBytes}
 use Rattle.tables.specs.Sums.{Adding, adding-none, adding-next, adding-end}
 use Rattle.system.specs.Sides.{RowTurn, row-turn}
-use Rattle.partial_sums.specs.Places.{table-sizes}
-use Rattle.system.specs.Equation.{targetAdded, target-step, target-rows, target-within}
+use Rattle.partial_sums.specs.SumPlaces.{table-sizes}
+use Rattle.system.specs.Equation.{targetAdded, target-step, target-within}
 use borrow.Author.Needs.{needs}
 use native.Mathlib.Omega.{arith}
 use Rattle.system.proofs.equation.add_target.Statement.{statement}
 use Rattle.system.proofs.equation.add_target.Tie as tie
 
 abbrev Inv-loop : tie.InvT-loop
-Inv-loop g₀ at abq sums target i l n total block e₀ g e = Adding g₀ at total (n + 1) (targetAdded l n total block target i) e g
+Inv-loop g₀ at target i known l n total e₀ g e = Adding g₀ at total (n + 1) (targetAdded l n total known target i) e g
 
 abbrev μ-loop : tie.MeasureT-loop
-μ-loop g₀ at abq sums target i l n total block e₀ g e = total - e
+μ-loop g₀ at target i known l n total e₀ g e = total - e
 
 abbrev start : tie.At-loop Inv-loop μ-loop → tie.Start Inv-loop μ-loop
-start c = c .before .before .before .before .before .before .before
+start c = c .before .before .before .before
 
 -- where row e stands
 turn : (c : tie.In-loop Inv-loop μ-loop) → (let set = start (c .before) .args .set in RowTurn (set .l) (set .o * set .l * set .l + 1) (c .before .loop .e))
@@ -36,25 +35,18 @@ number : (c : tie.In-loop Inv-loop μ-loop) → (let s = start (c .before) in le
     s .args .i * (set .l * set .l) + c .before .loop .e < set .o * (set .l * set .l))
 number c = digits-lt (start (c .before) .pre .0 .1) (c .loop-test .taken)
 
--- a block has 25 bytes
-size : (c : tie.At-loop Inv-loop μ-loop) → length (c .before .equation-block .result) ≡ 25
-size c =
-    let a = start c .args in
-    ap length (c .before .equation-block .ensures) ∙ length-block (a .set .l) (equationFrom (a .set) (a .abq .now) (a .sums .now) (a .i))
+-- a block has so many bytes
+size : (s : tie.Start Inv-loop μ-loop) → length (s .args .t4) ≡ blockBytes
+size s = search needs
 
 mul-n : tie.Need-mul-n Inv-loop μ-loop
-mul-n c = omega (arith, table-sizes (c .before .before .before .before .before .pre .0 .0) .ol)
+mul-n c = omega (arith, table-sizes (c .before .before .before .pre .0 .0) .ol)
 
 mul-n-2 : tie.Need-mul-n-2 Inv-loop μ-loop
-mul-n-2 c = omega (arith, table-sizes (c .before .before .before .before .before .pre .0 .0) .oll)
+mul-n-2 c = omega (arith, table-sizes (c .before .before .before .pre .0 .0) .oll)
 
 mul-total : tie.Need-mul-total Inv-loop μ-loop
-mul-total c = omega (arith, table-sizes (c .before .before .before .before .before .pre .0 .0) .ll)
-
-equation-block-requires : tie.Need-equation-block-requires Inv-loop μ-loop
-equation-block-requires c κs =
-    let s = c .before .before .before .before .before in
-    ((s .pre .0 .0, s .pre .0 .1), (s .pre .1 .0, s .pre .1 .1 .1 .0))
+mul-total c = omega (arith, table-sizes (c .before .before .before .pre .0 .0) .ll)
 
 loop-holds : tie.Need-loop-holds Inv-loop μ-loop
 loop-holds c = adding-none
@@ -66,13 +58,13 @@ mul-place : tie.Need-mul-place Inv-loop μ-loop
 mul-place c = omega (arith, turn c .row, table-sizes (start (c .before) .pre .0 .0) .equation)
 
 add-place-2 : tie.Need-add-place-2 Inv-loop μ-loop
-add-place-2 c = omega (arith, turn c .row, start (c .before) .pre .1 .1 .0)
+add-place-2 c = omega (arith, turn c .row, start (c .before) .pre .1 .0)
 
 add-place-3 : tie.Need-add-place-3 Inv-loop μ-loop
-add-place-3 c = omega (arith, turn c .row, start (c .before) .pre .1 .1 .0)
+add-place-3 c = omega (arith, turn c .row, start (c .before) .pre .1 .0)
 
 slice-aggregate-add-scaled : tie.Need-slice-aggregate-add-scaled Inv-loop μ-loop
-slice-aggregate-add-scaled c = sym (size (c .before .before .before))
+slice-aggregate-add-scaled c = search needs
 
 div-add-scaled : tie.Need-div-add-scaled Inv-loop μ-loop
 div-add-scaled c = omega (arith, start (c .before .before .before) .pre .0 .0 .limits .l-least)
@@ -91,7 +83,7 @@ add-scaled-requires c κs =
     let at = c .before .before .before in
     let s = start at in
     let here = turn (c .before .before) in
-    (omega (arith, here .row, s .pre .1 .1 .0, at .loop .inv .so-far .long), omega (arith, here .high, here .low, s .pre .0 .0 .limits .l-most, size at))
+    (omega (arith, here .row, s .pre .1 .0, at .loop .inv .so-far .long), omega (arith, here .high, here .low, s .pre .0 .0 .limits .l-most, size s))
 
 mul-add-elements : tie.Need-mul-add-elements Inv-loop μ-loop
 mul-add-elements c =
@@ -107,8 +99,8 @@ add-elements-requires : tie.Need-add-elements-requires Inv-loop μ-loop
 add-elements-requires c κs =
     let now = c .before .before .before .before .before .before in
     let s = start (now .before) in (
-      omega (arith, turn now .row, s .pre .1 .1 .0, now .before .loop .inv .so-far .long, c .before .before .before .add-scaled .kept .0),
-      omega (arith, number now, target-within (s .pre .0 .0) (s .pre .1 .1 .1 .1)),
+      omega (arith, turn now .row, s .pre .1 .0, now .before .loop .inv .so-far .long, c .before .before .before .add-scaled .kept .0),
+      omega (arith, number now, target-within (s .pre .0 .0) (s .pre .1 .1)),
     )
 
 add-e : tie.Need-add-e Inv-loop μ-loop
@@ -125,18 +117,11 @@ loop-again c =
     let at = now .before in
     let a = start at .args in
     adding-next (at .loop .inv) (now .loop-test .taken)
-    (target-step (a .set .l) (a .set .o * a .set .l * a .set .l) (a .set .l * a .set .l) (at .before .equation-block .result) (a .target .now) (a .i) (at .loop .e) refl
+    (target-step (a .set .l) (a .set .o * a .set .l * a .set .l) (a .set .l * a .set .l) (a .t4) (a .target .now) (a .i) (at .loop .e) refl
     (c .before .before .before .before .before .before .add-scaled .ensures) (c .before .before .add-elements .ensures))
 
-same-length : tie.Need-same-length Inv-loop μ-loop
-same-length c = search needs
-
 returns : tie.Need-returns Inv-loop μ-loop
-returns c =
-    let at = c .before in
-    let s = start at in
-    let a = s .args in
-    target-rows (s .pre .0 .0) (a .abq .now) (a .sums .now) (a .target .now) (a .i) (at .before .equation-block .ensures) (adding-end (at .loop .inv) (c .loop-test .left))
+returns c = adding-end (c .before .loop .inv) (c .loop-test .left)
 
 pub add-target-spec : {M : Type 1} → statement M
 add-target-spec =
@@ -147,7 +132,6 @@ add-target-spec =
     mul-n
     mul-n-2
     mul-total
-    equation-block-requires
     loop-holds
     add-place
     mul-place
@@ -165,5 +149,5 @@ add-target-spec =
     add-e
     loop-less
     loop-again
-    same-length
+    (λ c. search needs)
     returns)

@@ -1,9 +1,8 @@
 -- `system::equation::build` meets its contract. The invariant: the rows of the first i equations are there. Rests on Equation.
 use mathlib.Core.Path.{refl}
 use Prim.Native.Nat.{_+_, _*_, _-_, _≤_}
-use Rattle.rows.specs.PlusRows.{rows-then}
 use Rattle.partial_sums.specs.Products.{Stacking, stacking-none, stacking-next, stacking-end}
-use Rattle.partial_sums.specs.Places.{TableSizes, table-sizes, stack-fits}
+use Rattle.partial_sums.specs.SumPlaces.{TableSizes, table-sizes, stack-fits}
 use Rattle.system.specs.Equation.{systemRow, built}
 use borrow.Author.Needs.{needs}
 use native.Mathlib.Omega.{arith}
@@ -55,47 +54,16 @@ add-equation-requires : tie.Need-add-equation-requires Inv-loop μ-loop
 add-equation-requires c κs =
     let now = c .before in
     let at = now .before in
-    let s = start at in
-    let tables = s .pre .1 .1 in (
-      (s .pre .0 .0, now .loop-test .taken),
-      (
-        (s .pre .1 .0 .0, s .pre .1 .0 .1 .0),
-        (
-          omega (arith, stack now, s .pre .0 .1, at .loop .inv .so-far .long, at .before .before .before .clear .kept .0),
-          (omega (arith, tables .0, tables .1 .0), (omega (arith, tables .0, tables .1 .0), tables .1 .1 .0)),
-        ),
-      ),
-    )
-
-add-target-requires : tie.Need-add-target-requires Inv-loop μ-loop
-add-target-requires c κs =
-    let now = c .before .before .before .before .before in
-    let at = now .before in
     let s = start at in (
       (s .pre .0 .0, now .loop-test .taken),
       (
-        (s .pre .1 .0 .0, s .pre .1 .0 .1 .0),
-        (
-          omega (arith, stack now, s .pre .0 .1, at .loop .inv .so-far .long, at .before .before .before .clear .kept .0, c .before .before .before .add-equation .kept .0),
-          (s .pre .1 .1 .1 .1 .1, s .pre .1 .0 .1 .1),
-        ),
+        s .pre .1 .0,
+        (omega (arith, stack now, s .pre .0 .1, at .loop .inv .so-far .long, at .before .before .before .clear .kept .0), s .pre .1 .1),
       ),
     )
 
-add-i : tie.Need-add-i Inv-loop μ-loop
-add-i c = search needs
-
-loop-less : tie.Need-loop-less Inv-loop μ-loop
-loop-less c = search needs
-
 loop-again : tie.Need-loop-again Inv-loop μ-loop
-loop-again c =
-    let now = c .before .before .before .before .before .before .before .before in
-    let rows = rows-then (c .before .before .before .before .before .before .add-equation .ensures) (c .before .before .add-target .ensures) in
-    stacking-next (now .before .loop .inv) (now .loop-test .taken) refl rows
-
-same-length : tie.Need-same-length Inv-loop μ-loop
-same-length c = search needs
+loop-again c = let now = c .before .before .before .before in stacking-next (now .before .loop .inv) (now .loop-test .taken) refl (c .before .before .add-equation .ensures)
 
 returns : tie.Need-returns Inv-loop μ-loop
 returns c =
@@ -119,9 +87,8 @@ build-spec =
     mul-at-4
     mul-at-5
     add-equation-requires
-    add-target-requires
-    add-i
-    loop-less
+    (λ c. search needs)
+    (λ c. search needs)
     loop-again
-    same-length
+    (λ c. search needs)
     returns)

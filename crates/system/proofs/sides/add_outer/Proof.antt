@@ -1,5 +1,6 @@
 -- `system::sides::add_outer` meets its contract. The invariant: the first z rows have gained. Rests on Sides and tables' Sums.
 use Prim.Native.Nat.{_*_, _-_, _<_}
+use Rattle.matrix.specs.Block.{stride}
 use Rattle.tables.specs.Sums.{Adding, adding-none, adding-next-at, adding-end}
 use Rattle.system.specs.Sides.{outerRow, outer-row, OuterTurn, outer-turn}
 use native.Mathlib.Nat.{le-mul-of-pos-right}
@@ -9,7 +10,7 @@ use Rattle.system.proofs.sides.add_outer.Statement.{statement}
 use Rattle.system.proofs.sides.add_outer.Tie as tie
 
 abbrev Inv-loop : tie.InvT-loop
-Inv-loop products₀ l count sides m width total z₀ products z = Adding products₀ 0 (count * l * l) (l * 5) (outerRow l sides m) z products
+Inv-loop products₀ l count sides m width total z₀ products z = Adding products₀ 0 (count * l * l) (l * stride) (outerRow l sides m) z products
 
 abbrev μ-loop : tie.MeasureT-loop
 μ-loop products₀ l count sides m width total z₀ products z = total - z
@@ -28,14 +29,14 @@ mul-total : tie.Need-mul-total Inv-loop μ-loop
 mul-total c =
     let s = c .before .before .before in
     let l = s .args .l in
-    let wide : 0 < l * 5 = omega (arith, s .pre .0 .0) in
+    let wide : 0 < l * stride = omega (arith, s .pre .0 .0) in
     omega (arith, s .pre .0 .1 .1, le-mul-of-pos-right (s .args .count * l) (s .pre .0 .0), le-mul-of-pos-right (s .args .count * l * l) wide)
 
 mul-total-2 : tie.Need-mul-total-2 Inv-loop μ-loop
 mul-total-2 c =
     let s = c .before .before .before in
     let l = s .args .l in
-    let wide : 0 < l * 5 = omega (arith, s .pre .0 .0) in
+    let wide : 0 < l * stride = omega (arith, s .pre .0 .0) in
     omega (arith, s .pre .0 .1 .1, le-mul-of-pos-right (s .args .count * l * l) wide)
 
 loop-holds : tie.Need-loop-holds Inv-loop μ-loop
@@ -94,9 +95,6 @@ loop-again c =
     adding-next-at (now .before .loop .inv) (now .loop-test .taken) (omega arith)
     (outer-row (a .l) (a .sides .now) (a .m .now) (now .before .loop .z) (c .before .before .add-scaled .ensures))
 
-same-length : tie.Need-same-length Inv-loop μ-loop
-same-length c = search needs
-
 returns : tie.Need-returns Inv-loop μ-loop
 returns c = adding-end (c .before .loop .inv) (c .loop-test .left)
 
@@ -125,5 +123,5 @@ add-outer-spec =
     add-z
     loop-less
     loop-again
-    same-length
+    (λ c. search needs)
     returns)

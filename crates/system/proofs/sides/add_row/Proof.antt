@@ -115,9 +115,6 @@ loop-again c =
     (cell-row (a .l) (a .lefts .now) (a .rights .now) (a .r) (a .c) (now .before .loop .q)
     (c .before .before .before .before .before .before .add-scaled .ensures) (c .before .before .add-scaled2 .ensures))
 
-same-length : tie.Need-same-length Inv-loop μ-loop
-same-length c = search needs
-
 returns : tie.Need-returns Inv-loop μ-loop
 returns c = adding-end (c .before .loop .inv) (c .loop-test .left)
 
@@ -153,5 +150,5 @@ add-row-spec =
     add-q
     loop-less
     loop-again
-    same-length
+    (λ c. search needs)
     returns)

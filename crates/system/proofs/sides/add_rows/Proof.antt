@@ -74,9 +74,6 @@ loop-again c =
     adding-next (now .before .loop .inv) (now .loop-test .taken)
     (row-widened (a .l) (a .count) (a .lefts .now) (a .rights .now) (now .before .loop .e) (c .before .before .add-row .ensures))
 
-same-length : tie.Need-same-length Inv-loop μ-loop
-same-length c = search needs
-
 returns : tie.Need-returns Inv-loop μ-loop
 returns c = adding-end (c .before .loop .inv) (c .loop-test .left)
 
@@ -99,5 +96,5 @@ add-rows-spec =
     add-e
     loop-less
     loop-again
-    same-length
+    (λ c. search needs)
     returns)

@@ -2,9 +2,8 @@
 use mathlib.Core.Path.{ap}
 use Prim.Native.Nat.{ℕ, _+_, _*_, _-_}
 use lib.ListN.{length}
-use Rattle.matrix.specs.Block.{view, length-block}
-use Rattle.matrix.specs.RingElements.{coefficient}
-use Rattle.scheme.specs.Streams.{groupOf}
+use Rattle.matrix.specs.Block.{view, length-block, blockBytes}
+use Rattle.matrix.specs.Promises.{coefficients}
 use Rattle.tables.specs.Sums.{Adding, adding-none, adding-next-at, adding-end}
 use Rattle.system.specs.Sides.{sideOf, sideRow, side-row, sides-filled, TileFits, tile-fits}
 use borrow.Author.Needs.{needs}
@@ -13,18 +12,18 @@ use Rattle.system.proofs.sides.fill_sides.Statement.{statement}
 use Rattle.system.proofs.sides.fill_sides.Tie as tie
 
 abbrev Inv-loop : tie.InvT-loop
-Inv-loop out₀ l count first last table w row down across abq group k₀ out k =
-    Adding out₀ 0 count 25 (sideRow l (sideOf l (view first) (coefficient l (groupOf l abq group)) table w row down across (view last))) k out
+Inv-loop out₀ l count first last table w row down across q k₀ out k =
+    Adding out₀ 0 count blockBytes (sideRow l (sideOf l (view first) (coefficients q) table w row down across (view last))) k out
 
 abbrev μ-loop : tie.MeasureT-loop
-μ-loop out₀ l count first last table w row down across abq group k₀ out k = count - k
+μ-loop out₀ l count first last table w row down across q k₀ out k = count - k
 
 abbrev start : tie.At-loop Inv-loop μ-loop → tie.Start Inv-loop μ-loop
-start c = c .before .before .before .before .before .before .before .before
+start c = c .before .before .before .before .before .before .before
 
--- the coefficients of the group
+-- the coefficients
 abbrev group : tie.Start Inv-loop μ-loop → ℕ → ℕ
-group s = coefficient (s .args .l) (groupOf (s .args .l) (s .args .abq .now) (s .args .group))
+group s = coefficients (s .args .q)
 
 -- the first block of the sum of this turn stands in the table
 turn : (c : tie.In-loop Inv-loop μ-loop)
@@ -51,7 +50,7 @@ mul-combined-2 c = omega (arith, turn c)
 combined-requires : tie.Need-combined-requires Inv-loop μ-loop
 combined-requires c κs =
     let s = start (c .before) in
-    ((s .pre .0 .1 .0, s .pre .0 .1 .1 .0), λ x h. s .pre .1 (c .before .loop .k) x (c .loop-test .taken) h)
+    (s .pre .0 .1 .0, λ x h. s .pre .1 (c .before .loop .k) x (c .loop-test .taken) h)
 
 product-requires : tie.Need-product-requires Inv-loop μ-loop
 product-requires c κs = start (c .before .before) .pre .0 .1 .0
@@ -62,10 +61,7 @@ product-requires-2 c κs = start (c .before .before .before) .pre .0 .1 .0
 mul-add-scaled : tie.Need-mul-add-scaled Inv-loop μ-loop
 mul-add-scaled c =
     let now = c .before .before .before .before in
-    omega (arith, now .loop-test .taken, start (now .before) .pre .0 .1 .1 .1)
-
-slice-aggregate-add-scaled : tie.Need-slice-aggregate-add-scaled Inv-loop μ-loop
-slice-aggregate-add-scaled c = search needs
+    omega (arith, now .loop-test .taken, start (now .before) .pre .0 .1 .1)
 
 add-scaled-requires : tie.Need-add-scaled-requires Inv-loop μ-loop
 add-scaled-requires c κs =
@@ -77,7 +73,7 @@ add-scaled-requires c κs =
       now .loop-test .taken,
       at .loop .inv .so-far .long,
       at .before .before .before .clear .kept .0,
-      start at .pre .0 .1 .1 .1,
+      start at .pre .0 .1 .1,
     )
 
 add-k : tie.Need-add-k Inv-loop μ-loop
@@ -97,9 +93,6 @@ loop-again c =
     adding-next-at (now .before .loop .inv) (now .loop-test .taken) (omega arith)
     (side-row (s .pre .0 .1 .0) (a .first) (a .last) (group s) (a .table .now) (a .w) (a .row) (a .down) (a .across) (now .before .loop .k)
     (side .before .before .combined .ensures) (side .before .product .ensures) (side .product2 .ensures) (c .before .before .add-scaled .ensures))
-
-same-length : tie.Need-same-length Inv-loop μ-loop
-same-length c = search needs
 
 returns : tie.Need-returns Inv-loop μ-loop
 returns c =
@@ -127,10 +120,10 @@ fill-sides-spec =
     product-requires
     product-requires-2
     mul-add-scaled
-    slice-aggregate-add-scaled
+    (λ c. search needs)
     add-scaled-requires
     add-k
     loop-less
     loop-again
-    same-length
+    (λ c. search needs)
     returns)

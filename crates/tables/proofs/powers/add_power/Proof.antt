@@ -4,7 +4,7 @@ use Prim.Native.Nat.{_-_, _≤_}
 use lib.ListN.{length}
 use Rattle.ground.specs.Place.{row-fits}
 use Rattle.matrix.specs.RingElements.{powerS}
-use Rattle.matrix.specs.Block.{length-block}
+use Rattle.matrix.specs.Block.{length-block, blockBytes}
 use Rattle.rows.specs.PlusRows.{PlusRows, rows-none, rows-next}
 use Rattle.rows.specs.RowsJoin.{rows-end}
 use Rattle.tables.specs.PowerBlocks.{power-gains}
@@ -23,11 +23,8 @@ abbrev start : tie.At-loop Inv-loop μ-loop → tie.Start Inv-loop μ-loop
 start c = c .before .before .before
 
 -- a block has 25 bytes
-size : (c : tie.At-loop Inv-loop μ-loop) → length (c .before .s-power .result) ≡ 25
+size : (c : tie.At-loop Inv-loop μ-loop) → length (c .before .s-power .result) ≡ blockBytes
 size c = ap length (c .before .s-power .ensures) ∙ length-block (start c .args .l) (powerS (start c .args .l) (start c .args .p))
-
-s-power-requires : tie.Need-s-power-requires Inv-loop μ-loop
-s-power-requires c κs = search needs
 
 loop-holds : tie.Need-loop-holds Inv-loop μ-loop
 loop-holds c = (omega arith, rows-none)
@@ -49,12 +46,6 @@ add-scaled-requires c κs =
     let here = c .before .before in
     omega (arith, row-fits (start (here .before) .args .l) (here .loop-test .taken), start (here .before) .pre, size (here .before), here .before .loop .inv .1 .long)
 
-add-r : tie.Need-add-r Inv-loop μ-loop
-add-r c = search needs
-
-loop-less : tie.Need-loop-less Inv-loop μ-loop
-loop-less c = search needs
-
 loop-again : tie.Need-loop-again Inv-loop μ-loop
 loop-again c =
     let turn = c .before .before .before .before .before in
@@ -63,9 +54,6 @@ loop-again c =
     let power = at .before .s-power .ensures in
     let gains = power-gains (s .args .l) (s .args .p) (s .pre .0) power (turn .loop-test .taken) refl (c .before .before .add-scaled .ensures) in
     (omega (arith, turn .loop-test .taken), rows-next (at .loop .inv .1) refl gains)
-
-same-length : tie.Need-same-length Inv-loop μ-loop
-same-length c = search needs
 
 returns : tie.Need-returns Inv-loop μ-loop
 returns c = rows-end (c .before .loop .inv .1) (c .before .loop .inv .0) (c .loop-test .left)
@@ -76,15 +64,15 @@ add-power-spec =
     (tie.spec
     Inv-loop
     μ-loop
-    s-power-requires
+    (λ c κs. search needs)
     loop-holds
     mul-add-scaled
     add-add-scaled
     slice-aggregate-add-scaled
     mul-add-scaled-2
     add-scaled-requires
-    add-r
-    loop-less
+    (λ c. search needs)
+    (λ c. search needs)
     loop-again
-    same-length
+    (λ c. search needs)
     returns)

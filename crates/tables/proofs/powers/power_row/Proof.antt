@@ -60,19 +60,10 @@ add-columns-requires c κs =
     let here = c .before in
     (omega (arith, place here, list-row here), λ q h. omega (arith, turn here, h))
 
-add-b : tie.Need-add-b Inv-loop μ-loop
-add-b c = search needs
-
-loop-less : tie.Need-loop-less Inv-loop μ-loop
-loop-less c = search needs
-
 loop-again : tie.Need-loop-again Inv-loop μ-loop
 loop-again c =
     let now = c .before .before .before .before in
     powering-next (now .before .loop .inv) (now .loop-test .taken) refl refl refl (c .before .before .add-columns .ensures)
-
-same-length : tie.Need-same-length Inv-loop μ-loop
-same-length c = search needs
 
 returns : tie.Need-returns Inv-loop μ-loop
 returns c = powering-end (c .before .loop .inv) (c .loop-test .left)
@@ -91,8 +82,8 @@ power-row-spec =
     mul-add-columns-3
     mul-add-columns-4
     add-columns-requires
-    add-b
-    loop-less
+    (λ c. search needs)
+    (λ c. search needs)
     loop-again
-    same-length
+    (λ c. search needs)
     returns)

@@ -23,9 +23,6 @@ start c = c .before .before .before .before .before .before .before .before
 turn : (c : tie.In-loop Inv-loop μ-loop) → ListTurn (start (c .before) .args .l) (start (c .before) .args .n) (c .before .loop .y)
 turn c = list-turn (start (c .before) .args .l) (start (c .before) .args .n) (start (c .before) .pre .0 .0) (c .loop-test .taken)
 
-clear-requires : tie.Need-clear-requires Inv-loop μ-loop
-clear-requires c κs = search needs
-
 mul-row : tie.Need-mul-row Inv-loop μ-loop
 mul-row c =
     let begin = c .before .before .before .before .before .before .before in
@@ -54,16 +51,10 @@ power-row-requires c κs = omega (arith, turn (c .before), start (c .before .bef
 add-y : tie.Need-add-y Inv-loop μ-loop
 add-y c = omega (arith, turn (c .before .before .before .before), start (c .before .before .before .before .before) .pre .0)
 
-loop-less : tie.Need-loop-less Inv-loop μ-loop
-loop-less c = search needs
-
 loop-again : tie.Need-loop-again Inv-loop μ-loop
 loop-again c =
     let now = c .before .before .before .before in
     filling-next (now .before .loop .inv) (now .loop-test .taken) refl (c .before .before .power-row .ensures)
-
-same-length : tie.Need-same-length Inv-loop μ-loop
-same-length c = search needs
 
 returns : tie.Need-returns Inv-loop μ-loop
 returns c =
@@ -77,7 +68,7 @@ power-table-spec =
     (tie.spec
     Inv-loop
     μ-loop
-    clear-requires
+    (λ c κs. search needs)
     mul-row
     mul-count
     loop-holds
@@ -86,7 +77,7 @@ power-table-spec =
     rem-power-row
     power-row-requires
     add-y
-    loop-less
+    (λ c. search needs)
     loop-again
-    same-length
+    (λ c. search needs)
     returns)

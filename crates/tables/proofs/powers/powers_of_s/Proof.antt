@@ -17,9 +17,6 @@ abbrev μ-loop : tie.MeasureT-loop
 abbrev start : tie.At-loop Inv-loop μ-loop → tie.Start Inv-loop μ-loop
 start c = c .before .before .before .before .before .before
 
-clear-requires : tie.Need-clear-requires Inv-loop μ-loop
-clear-requires c κs = search needs
-
 loop-holds : tie.Need-loop-holds Inv-loop μ-loop
 loop-holds c = stacking-none
 
@@ -39,19 +36,10 @@ add-power-requires c κs =
     let begin = start here in
     omega (arith, row-fits (begin .args .l * begin .args .l) (c .before .loop-test .taken), begin .pre, here .loop .inv .so-far .long, here .before .before .before .clear .kept .0)
 
-add-p : tie.Need-add-p Inv-loop μ-loop
-add-p c = search needs
-
-loop-less : tie.Need-loop-less Inv-loop μ-loop
-loop-less c = search needs
-
 loop-again : tie.Need-loop-again Inv-loop μ-loop
 loop-again c =
     let now = c .before .before .before .before in
     stacking-next (now .before .loop .inv) (now .loop-test .taken) refl (c .before .before .add-power .ensures)
-
-same-length : tie.Need-same-length Inv-loop μ-loop
-same-length c = search needs
 
 returns : tie.Need-returns Inv-loop μ-loop
 returns c = stacking-filled (c .before .before .before .before .clear .ensures) (c .before .loop .inv) (c .loop-test .left)
@@ -62,13 +50,13 @@ powers-of-s-spec =
     (tie.spec
     Inv-loop
     μ-loop
-    clear-requires
+    (λ c κs. search needs)
     loop-holds
     mul-add-power
     mul-add-power-2
     add-power-requires
-    add-p
-    loop-less
+    (λ c. search needs)
+    (λ c. search needs)
     loop-again
-    same-length
+    (λ c. search needs)
     returns)

@@ -24,9 +24,6 @@ turn c = power-turn (start c .args .l) (c .loop-test .taken) (start c .pre .1)
 loop-holds : tie.Need-loop-holds Inv-loop μ-loop
 loop-holds c = ringing-none
 
-coefficient-at-requires : tie.Need-coefficient-at-requires Inv-loop μ-loop
-coefficient-at-requires c κs = search needs
-
 mul-add-scaled : tie.Need-mul-add-scaled Inv-loop μ-loop
 mul-add-scaled c = omega (arith, turn (c .before .before))
 
@@ -39,19 +36,10 @@ mul-add-scaled-2 c = omega (arith, turn (c .before .before))
 add-scaled-requires : tie.Need-add-scaled-requires Inv-loop μ-loop
 add-scaled-requires c κs = omega (arith, turn (c .before .before))
 
-add-p : tie.Need-add-p Inv-loop μ-loop
-add-p c = search needs
-
-loop-less : tie.Need-loop-less Inv-loop μ-loop
-loop-less c = search needs
-
 loop-again : tie.Need-loop-again Inv-loop μ-loop
 loop-again c =
     let now = c .before .before .before .before .before in
     ringing-next (now .before .loop .inv) (now .loop-test .taken) (c .before .before .before .before .coefficient-at .ensures) refl (c .before .before .add-scaled .ensures)
-
-same-length : tie.Need-same-length Inv-loop μ-loop
-same-length c = search needs
 
 returns : tie.Need-returns Inv-loop μ-loop
 returns c = ringing-end (c .before .loop .inv) (c .loop-test .left)
@@ -63,13 +51,13 @@ private-part-spec =
     Inv-loop
     μ-loop
     loop-holds
-    coefficient-at-requires
+    (λ c κs. search needs)
     mul-add-scaled
     add-add-scaled
     mul-add-scaled-2
     add-scaled-requires
-    add-p
-    loop-less
+    (λ c. search needs)
+    (λ c. search needs)
     loop-again
-    same-length
+    (λ c. search needs)
     returns)

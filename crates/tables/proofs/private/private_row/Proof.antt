@@ -39,19 +39,10 @@ add-private-part-2 c = omega (arith, turn (c .before))
 private-part-requires : tie.Need-private-part-requires Inv-loop μ-loop
 private-part-requires c κs = omega (arith, turn (c .before), row-fits (start (c .before) .args .l) (c .before .loop-test .taken))
 
-add-k : tie.Need-add-k Inv-loop μ-loop
-add-k c = search needs
-
-loop-less : tie.Need-loop-less Inv-loop μ-loop
-loop-less c = search needs
-
 loop-again : tie.Need-loop-again Inv-loop μ-loop
 loop-again c =
     let now = c .before .before .before .before in
     rings-next (now .before .loop .inv) (now .loop-test .taken) refl (c .before .before .private-part .ensures)
-
-same-length : tie.Need-same-length Inv-loop μ-loop
-same-length c = search needs
 
 returns : tie.Need-returns Inv-loop μ-loop
 returns c = rings-end (c .before .loop .inv) (c .loop-test .left)
@@ -67,8 +58,8 @@ private-row-spec =
     add-private-part
     add-private-part-2
     private-part-requires
-    add-k
-    loop-less
+    (λ c. search needs)
+    (λ c. search needs)
     loop-again
-    same-length
+    (λ c. search needs)
     returns)

@@ -33,9 +33,6 @@ mul-w c = omega (arith, c .before .before .before .pre .0 .products .ol)
 mul-count : tie.Need-mul-count Inv-loop μ-loop
 mul-count c = omega (arith, c .before .before .before .before .pre .0 .products .vl)
 
-clear-requires : tie.Need-clear-requires Inv-loop μ-loop
-clear-requires c κs = search needs
-
 loop-holds : tie.Need-loop-holds Inv-loop μ-loop
 loop-holds c = filling-none
 
@@ -55,19 +52,10 @@ private-row-requires : tie.Need-private-row-requires Inv-loop μ-loop
 private-row-requires c κs =
     omega (arith, turn (c .before), start (c .before .before) .pre .1 .0, within (c .before), c .before .before .before .before .before .clear .kept .0)
 
-add-y : tie.Need-add-y Inv-loop μ-loop
-add-y c = search needs
-
-loop-less : tie.Need-loop-less Inv-loop μ-loop
-loop-less c = search needs
-
 loop-again : tie.Need-loop-again Inv-loop μ-loop
 loop-again c =
     let now = c .before .before .before .before in
     filling-next (now .before .loop .inv) (now .loop-test .taken) refl (c .before .before .private-row .ensures)
-
-same-length : tie.Need-same-length Inv-loop μ-loop
-same-length c = search needs
 
 returns : tie.Need-returns Inv-loop μ-loop
 returns c =
@@ -83,15 +71,15 @@ private-table-spec =
     μ-loop
     mul-w
     mul-count
-    clear-requires
+    (λ c κs. search needs)
     loop-holds
     mul-private-row
     div-private-row
     mul-private-row-2
     rem-private-row
     private-row-requires
-    add-y
-    loop-less
+    (λ c. search needs)
+    (λ c. search needs)
     loop-again
-    same-length
+    (λ c. search needs)
     returns)

@@ -2,7 +2,7 @@
 use Prim.Native.Nat.{_+_, _*_, _-_, _≤_}
 use native.Mathlib.Nat.{le-trans, mul-le-mul}
 use Rattle.ground.specs.Place.{row-fits}
-use Rattle.tables.specs.Laid.{AddingBlocks, adding-none, adding-next, adding-end, row-room}
+use Rattle.tables.specs.AddingBlocks.{AddingBlocks, adding-none, adding-next, adding-end, row-room}
 use borrow.Author.Needs.{needs}
 use native.Mathlib.Omega.{arith}
 use Rattle.tables.proofs.products.add_blocks.Statement.{statement}
@@ -17,12 +17,6 @@ abbrev μ-loop : tie.MeasureT-loop
 abbrev start : tie.In-loop Inv-loop μ-loop → tie.Start Inv-loop μ-loop
 start c = c .before .before .before .before .before .before .before .before
 
-slice-aggregate-lay-blocks : tie.Need-slice-aggregate-lay-blocks Inv-loop μ-loop
-slice-aggregate-lay-blocks c = search needs
-
-lay-blocks-requires : tie.Need-lay-blocks-requires Inv-loop μ-loop
-lay-blocks-requires c κs = search needs
-
 loop-holds : tie.Need-loop-holds Inv-loop μ-loop
 loop-holds c = adding-none
 
@@ -33,12 +27,6 @@ row-inside c =
     let s = start c in
     let most = s .pre .1 .1 .1 .1 .1 in
     (le-trans (row-room (c .loop-test .taken)) (mul-le-mul most most), row-fits (s .args .n) (c .loop-test .taken))
-
-mul-product-word : tie.Need-mul-product-word Inv-loop μ-loop
-mul-product-word c = search needs
-
-slice-aggregate-product-word : tie.Need-slice-aggregate-product-word Inv-loop μ-loop
-slice-aggregate-product-word c = search needs
 
 mul-product-word-2 : tie.Need-mul-product-word-2 Inv-loop μ-loop
 mul-product-word-2 c = omega (arith, row-inside (c .before) .0)
@@ -63,12 +51,6 @@ add-add-word c = omega (arith, row-inside (c .before .before .before) .1)
 add-word-requires : tie.Need-add-word-requires Inv-loop μ-loop
 add-word-requires c κs = omega (arith, row-inside (c .before .before .before) .1, c .before .before .before .before .loop .inv .long)
 
-add-r : tie.Need-add-r Inv-loop μ-loop
-add-r c = search needs
-
-loop-less : tie.Need-loop-less Inv-loop μ-loop
-loop-less c = search needs
-
 loop-again : tie.Need-loop-again Inv-loop μ-loop
 loop-again c =
     let turn = c .before .before .before .before .before .before in
@@ -87,19 +69,19 @@ add-blocks-spec =
     (tie.spec
     Inv-loop
     μ-loop
-    slice-aggregate-lay-blocks
-    lay-blocks-requires
+    (λ c. search needs)
+    (λ c κs. search needs)
     loop-holds
-    mul-product-word
-    slice-aggregate-product-word
+    (λ c. search needs)
+    (λ c. search needs)
     mul-product-word-2
     add-product-word
     product-word-requires
     mul-add-word
     add-add-word
     add-word-requires
-    add-r
-    loop-less
+    (λ c. search needs)
+    (λ c. search needs)
     loop-again
     same-length
     returns)

@@ -3,6 +3,7 @@ use mathlib.Core.Path.{_≡_}
 use Prim.Native.Nat.{_+_, _*_, _-_}
 use lib.ListN.{length}
 use native.Mathlib.Nat.{le-mul-of-pos-right}
+use Rattle.sets.specs.Rooms.{vinegarRoom}
 use Rattle.rows.specs.Zero.{length-zeros}
 use Rattle.tables.specs.Gains.{blocksRow}
 use Rattle.tables.specs.Sums.{transposedGain, leftGain, Summing, summing-none, summing-next, summing-end, transposed-loaded, LeftTurn, left-turn}
@@ -13,7 +14,7 @@ use Rattle.tables.proofs.sums.add_left.Tie as tie
 
 abbrev Inv-loop : tie.InvT-loop
 Inv-loop dst₀ at l v x m stream number count n buffer₀ j₀ dst buffer j =
-    (length buffer ≡ 1200)
+    (length buffer ≡ vinegarRoom)
     × Summing dst₀ at m (count * l) v (λ j. transposedGain x (j * (l * m)) m l (blocksRow l stream (number + j * count))) j dst
 
 abbrev μ-loop : tie.MeasureT-loop
@@ -34,10 +35,7 @@ mul-n c =
     omega (arith, le-mul-of-pos-right (s .args .count * s .args .l) (s .pre .1 .1 .0))
 
 loop-holds : tie.Need-loop-holds Inv-loop μ-loop
-loop-holds c = (length-zeros 1200, summing-none)
-
-slice-aggregate-load-blocks : tie.Need-slice-aggregate-load-blocks Inv-loop μ-loop
-slice-aggregate-load-blocks c = search needs
+loop-holds c = (length-zeros vinegarRoom, summing-none)
 
 mul-load-blocks : tie.Need-mul-load-blocks Inv-loop μ-loop
 mul-load-blocks c = omega (arith, turn (c .before))
@@ -54,19 +52,10 @@ mul-add-transposed c = omega (arith, turn (c .before .before .before .before))
 mul-add-transposed-2 : tie.Need-mul-add-transposed-2 Inv-loop μ-loop
 mul-add-transposed-2 c = omega (arith, turn (c .before .before .before .before))
 
-slice-aggregate-add-transposed : tie.Need-slice-aggregate-add-transposed Inv-loop μ-loop
-slice-aggregate-add-transposed c = search needs
-
 add-transposed-requires : tie.Need-add-transposed-requires Inv-loop μ-loop
 add-transposed-requires c κs =
     let now = c .before .before .before .before .before in
     omega (arith, turn now, c .before .before .before .load-blocks .kept .0, now .before .loop .inv .1 .so-far .long)
-
-add-j : tie.Need-add-j Inv-loop μ-loop
-add-j c = search needs
-
-loop-less : tie.Need-loop-less Inv-loop μ-loop
-loop-less c = search needs
 
 loop-again : tie.Need-loop-again Inv-loop μ-loop
 loop-again c =
@@ -77,9 +66,6 @@ loop-again c =
       summing-next (now .before .loop .inv .1) (now .loop-test .taken)
           (transposed-loaded (a .x .now) (now .before .loop .j * (a .l * a .m)) (a .l) (c .before .before .add-transposed .ensures) (loaded .ensures)),
     )
-
-same-length : tie.Need-same-length Inv-loop μ-loop
-same-length c = search needs
 
 returns : tie.Need-returns Inv-loop μ-loop
 unfolding leftGain
@@ -93,16 +79,16 @@ add-left-spec =
     μ-loop
     mul-n
     loop-holds
-    slice-aggregate-load-blocks
+    (λ c. search needs)
     mul-load-blocks
     add-load-blocks
     load-blocks-requires
     mul-add-transposed
     mul-add-transposed-2
-    slice-aggregate-add-transposed
+    (λ c. search needs)
     add-transposed-requires
-    add-j
-    loop-less
+    (λ c. search needs)
+    (λ c. search needs)
     loop-again
-    same-length
+    (λ c. search needs)
     returns)

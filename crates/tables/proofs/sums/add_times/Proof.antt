@@ -38,21 +38,12 @@ add-columns-requires c κs =
     let now = c .before in
     (omega (arith, row now, now .before .loop .inv .so-far .long), λ x h. omega (arith, digits-lt (now .loop-test .taken) h))
 
-add-y : tie.Need-add-y Inv-loop μ-loop
-add-y c = search needs
-
-loop-less : tie.Need-loop-less Inv-loop μ-loop
-loop-less c = search needs
-
 loop-again : tie.Need-loop-again Inv-loop μ-loop
 loop-again c =
     let now = c .before .before .before .before in
     let a = start now .args in
     adding-next (now .before .loop .inv) (now .loop-test .taken)
     (times-row (a .scalars .now) (a .count) (a .src .now) (now .before .loop .y) (c .before .before .add-columns .ensures))
-
-same-length : tie.Need-same-length Inv-loop μ-loop
-same-length c = search needs
 
 returns : tie.Need-returns Inv-loop μ-loop
 returns c = adding-end (c .before .loop .inv) (c .loop-test .left)
@@ -68,8 +59,8 @@ add-times-spec =
     add-add-columns
     mul-add-columns-2
     add-columns-requires
-    add-y
-    loop-less
+    (λ c. search needs)
+    (λ c. search needs)
     loop-again
-    same-length
+    (λ c. search needs)
     returns)

@@ -41,21 +41,12 @@ add-columns-requires c κs =
     let now = c .before in
     (omega (arith, row now, now .before .loop .inv .so-far .long), λ x h. omega (arith, digits-lt h (now .loop-test .taken)))
 
-add-y : tie.Need-add-y Inv-loop μ-loop
-add-y c = search needs
-
-loop-less : tie.Need-loop-less Inv-loop μ-loop
-loop-less c = search needs
-
 loop-again : tie.Need-loop-again Inv-loop μ-loop
 loop-again c =
     let now = c .before .before .before .before in
     let a = start now .args in
     adding-next (now .before .loop .inv) (now .loop-test .taken)
     (transposed-row (a .scalars .now) (a .place) (a .m) (a .count) (a .src .now) (now .before .loop .y) (c .before .before .add-columns .ensures))
-
-same-length : tie.Need-same-length Inv-loop μ-loop
-same-length c = search needs
 
 returns : tie.Need-returns Inv-loop μ-loop
 returns c = adding-end (c .before .loop .inv) (c .loop-test .left)
@@ -71,8 +62,8 @@ add-transposed-spec =
     add-add-columns
     add-add-columns-2
     add-columns-requires
-    add-y
-    loop-less
+    (λ c. search needs)
+    (λ c. search needs)
     loop-again
-    same-length
+    (λ c. search needs)
     returns)

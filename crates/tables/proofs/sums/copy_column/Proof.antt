@@ -43,19 +43,10 @@ add-dst-2 c = omega (arith, places (c .before) .0)
 slice-write-dst : tie.Need-slice-write-dst Inv-loop μ-loop
 slice-write-dst c = omega (arith, places (c .before) .0, c .before .before .loop .inv .so-far .long)
 
-add-k : tie.Need-add-k Inv-loop μ-loop
-add-k c = search needs
-
-loop-less : tie.Need-loop-less Inv-loop μ-loop
-loop-less c = search needs
-
 loop-again : tie.Need-loop-again Inv-loop μ-loop
 loop-again c =
     let now = c .before in
     copying-next (now .before .loop .inv) (now .loop-test .taken) (start now .pre .1) (places now .0) refl
-
-same-length : tie.Need-same-length Inv-loop μ-loop
-same-length c = search needs
 
 returns : tie.Need-returns Inv-loop μ-loop
 returns c = copying-end (c .before .loop .inv) (c .loop-test .left)
@@ -73,8 +64,8 @@ copy-column-spec =
     mul-dst-2
     add-dst-2
     slice-write-dst
-    add-k
-    loop-less
+    (λ c. search needs)
+    (λ c. search needs)
     loop-again
-    same-length
+    (λ c. search needs)
     returns)

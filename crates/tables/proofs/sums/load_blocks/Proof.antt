@@ -3,7 +3,8 @@ use mathlib.Core.Path.{_≡_, refl, _∙_}
 use Prim.Native.Nat.{_*_, _-_, _≤_}
 use native.Mathlib.Nat.{le-mul-of-pos-right}
 use lib.ListN.{length}
-use Rattle.tables.specs.Laid.{block-room}
+use Rattle.sets.specs.Rooms.{vinegarRoom}
+use Rattle.streams.specs.Laid.{block-room}
 use Rattle.tables.specs.Columns.{Loading, loading-none, loading-next, loading-end, EntryTurn, entry-turn}
 use borrow.Author.Needs.{needs}
 use native.Mathlib.Omega.{arith}
@@ -24,11 +25,8 @@ turn : (c : tie.In-loop Inv-loop μ-loop) → EntryTurn (start (c .before) .args
 turn c = entry-turn (start (c .before) .args .l) (start (c .before) .args .count) (start (c .before) .pre .0 .1 .1) (c .loop-test .taken)
 
 -- a block has few elements
-few : (s : tie.Start Inv-loop μ-loop) → s .args .l * s .args .l ≤ 1200
+few : (s : tie.Start Inv-loop μ-loop) → s .args .l * s .args .l ≤ vinegarRoom
 few s = block-room (s .args .l) (s .pre .1 .1) (omega (arith, s .pre .1 .0))
-
-slice-aggregate-lay-blocks : tie.Need-slice-aggregate-lay-blocks Inv-loop μ-loop
-slice-aggregate-lay-blocks c = search needs
 
 lay-blocks-requires : tie.Need-lay-blocks-requires Inv-loop μ-loop
 lay-blocks-requires c κs =
@@ -60,9 +58,6 @@ add-copy-column c =
     let s = start (c .before .before) in
     omega (arith, turn (c .before) .write 0 (s .pre .1 .1), s .pre .1 .0)
 
-slice-aggregate-copy-column : tie.Need-slice-aggregate-copy-column Inv-loop μ-loop
-slice-aggregate-copy-column c = search needs
-
 add-copy-column-2 : tie.Need-add-copy-column-2 Inv-loop μ-loop
 add-copy-column-2 c =
     let now = c .before .before in
@@ -81,9 +76,6 @@ add-e : tie.Need-add-e Inv-loop μ-loop
 add-e c =
     let now = c .before .before .before .before .before in
     omega (arith, now .loop-test .taken, few (start (now .before)))
-
-loop-less : tie.Need-loop-less Inv-loop μ-loop
-loop-less c = search needs
 
 loop-again : tie.Need-loop-again Inv-loop μ-loop
 loop-again c =
@@ -106,7 +98,7 @@ load-blocks-spec =
     (tie.spec
     Inv-loop
     μ-loop
-    slice-aggregate-lay-blocks
+    (λ c. search needs)
     lay-blocks-requires
     mul-n
     mul-size
@@ -115,11 +107,11 @@ load-blocks-spec =
     mul-copy-column
     rem-copy-column
     add-copy-column
-    slice-aggregate-copy-column
+    (λ c. search needs)
     add-copy-column-2
     copy-column-requires
     add-e
-    loop-less
+    (λ c. search needs)
     loop-again
     same-length
     returns)

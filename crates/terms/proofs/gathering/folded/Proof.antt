@@ -18,12 +18,6 @@ abbrev μ-loop : tie.MeasureT-loop
 loop-holds : tie.Need-loop-holds Inv-loop μ-loop
 loop-holds c = rowing-none
 
-slice-aggregate-add-columns : tie.Need-slice-aggregate-add-columns Inv-loop μ-loop
-slice-aggregate-add-columns c = search needs
-
-mul-add-columns : tie.Need-mul-add-columns Inv-loop μ-loop
-mul-add-columns c = search needs
-
 mul-add-columns-2 : tie.Need-mul-add-columns-2 Inv-loop μ-loop
 mul-add-columns-2 c =
     let r-small : c .before .before .loop .r ≤ 4 = omega arith in
@@ -35,12 +29,6 @@ add-columns-requires c κs =
     let l = c .before .before .before .before .before .args .l in
     let next : c .before .before .loop .r + 1 ≤ l = omega arith in
     (omega (arith, mul-le-mul-right (l * l) next), λ x h. omega arith)
-
-add-r : tie.Need-add-r Inv-loop μ-loop
-add-r c = search needs
-
-loop-less : tie.Need-loop-less Inv-loop μ-loop
-loop-less c = search needs
 
 loop-again : tie.Need-loop-again Inv-loop μ-loop
 loop-again c =
@@ -59,11 +47,11 @@ folded-spec =
     Inv-loop
     μ-loop
     loop-holds
-    slice-aggregate-add-columns
-    mul-add-columns
+    (λ c. search needs)
+    (λ c. search needs)
     mul-add-columns-2
     add-columns-requires
-    add-r
-    loop-less
+    (λ c. search needs)
+    (λ c. search needs)
     loop-again
     returns)

@@ -20,9 +20,6 @@ mul-n c = let s = c .before .before .before in omega (arith, square-within (s .a
 mul-first : tie.Need-mul-first Inv-loop μ-loop
 mul-first c = let s = c .before .before .before in omega (arith, start-within (s .args .j) (s .args .l) (length (s .args .w .now)) (s .pre .1 .0))
 
-mul-first-2 : tie.Need-mul-first-2 Inv-loop μ-loop
-mul-first-2 c = search needs
-
 loop-holds : tie.Need-loop-holds Inv-loop μ-loop
 loop-holds c = gaining-none
 
@@ -57,16 +54,10 @@ add-row c =
     let s = c .before .before .before .before .before .before .before .before .before in
     omega (arith, square-within (s .args .l) (length (s .args .y .now)) (s .pre .1 .1))
 
-loop-less : tie.Need-loop-less Inv-loop μ-loop
-loop-less c = search needs
-
 loop-again : tie.Need-loop-again Inv-loop μ-loop
 loop-again c =
     let turn = c .before .before .before .before in
     gaining-next (turn .before .loop .inv) (turn .loop-test .taken) (c .before .before .add-columns .ensures)
-
-same-length : tie.Need-same-length Inv-loop μ-loop
-same-length c = search needs
 
 returns : tie.Need-returns Inv-loop μ-loop
 returns c = gaining-end (c .before .loop .inv) (c .loop-test .left)
@@ -79,14 +70,14 @@ add-power-sum-spec =
     μ-loop
     mul-n
     mul-first
-    mul-first-2
+    (λ c. search needs)
     loop-holds
     mul-add-columns
     add-add-columns
     add-add-columns-2
     add-columns-requires
     add-row
-    loop-less
+    (λ c. search needs)
     loop-again
-    same-length
+    (λ c. search needs)
     returns)

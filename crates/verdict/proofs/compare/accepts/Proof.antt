@@ -1,65 +1,74 @@
--- `verdict::compare::accepts` meets its contract: the two tables, and the comparison of every equation. Rests on Compare and Places.
-use mathlib.Core.Path.{sym, _∙_}
+-- `verdict::compare::accepts` meets its contract: the map at the unpacked signature, and the search for an entry that differs. Rests on Difference.
+use mathlib.Core.Path.{refl, _∙_}
+use Prim.Native.Nat.{_*_, _≤_}
+use lib.ListN.{length}
 use Rattle.rows.specs.Zero.{length-zeros}
-use Rattle.tables.specs.Rooms.{sums-room}
-use Rattle.verdict.specs.Places.{table-room}
-use Rattle.verdict.specs.Compare.{meets-accepted}
+use Rattle.sets.specs.Sets.{mostRow, targetCount, targetBytes, signatureCount, signatureBytes, variables}
+use Rattle.sets.specs.Bounds.{Bounds, bounds}
+use Rattle.sets.specs.Rooms.{listRoom, list-room}
+use Rattle.verdict.specs.Difference.{signature-values, compared-accepted}
+use borrow.Author.Needs.{needs}
 use native.Mathlib.Omega.{arith}
 use Rattle.verdict.proofs.compare.accepts.Statement.{statement}
 use Rattle.verdict.proofs.compare.accepts.Tie as tie
 
-slice-aggregate-signature-table : tie.Need-slice-aggregate-signature-table
-slice-aggregate-signature-table c = sym (length-zeros 5440)
+within : (s : tie.Start) → Bounds (s .args .set)
+within s = bounds (s .args .set) (s .pre .allowed)
 
-signature-table-requires : tie.Need-signature-table-requires
-signature-table-requires c κs =
-    let s = c .before .before .before .before .before .before in
-    (s .pre .0 .0, s .pre .1 .2, omega (arith, table-room (s .pre .0 .0), length-zeros 5440))
+signature-count-requires : tie.Need-signature-count-requires
+signature-count-requires c κs = within (c .before .before .before .before .before .before)
 
-slice-aggregate-all-sums : tie.Need-slice-aggregate-all-sums
-slice-aggregate-all-sums c = sym (length-zeros 2560)
+unpack-all-requires : tie.Need-unpack-all-requires
+unfolding signatureBytes
+unpack-all-requires c κs =
+    let s = c .before .before .before .before .before .before .before in
+    let b = within s in
+    omega (arith, c .signature-count .ensures, b .counts .signature, list-room b, s .pre .signature-long)
 
-slice-aggregate-all-sums-2 : tie.Need-slice-aggregate-all-sums-2
-slice-aggregate-all-sums-2 c = sym (c .before .before .before .signature-table .kept .0 ∙ length-zeros 5440)
-
-all-sums-requires : tie.Need-all-sums-requires
-all-sums-requires c κs =
-    let s = c .before .before .before .before .before .before .before .before .before .before in
-    let bounds = s .pre .0 .0 in
-    let w-long = c .before .before .before .signature-table .kept .0 in (
-      bounds,
-      (
-        (omega (arith, sums-room bounds, length-zeros 2560), omega (arith, table-room bounds, length-zeros 5440, w-long)),
-        (s .pre .0 .1, s .pre .1 .1),
-      ),
+evaluate-requires : tie.Need-evaluate-requires
+evaluate-requires c κs =
+    let s = c .before .before .before .before .before .before .before .before .before .before .before in
+    let b = within s in
+    let long = c .before .before .before .unpack-all .ensures .long ∙ length-zeros listRoom in (
+      record { bounds = b; public-long = s .pre .public-long; abq-lent = s .pre .abq-lent; key-long = s .pre .key-long },
+      (omega (arith, list-room b), b .limits .row),
     )
 
-slice-aggregate-all-equal : tie.Need-slice-aggregate-all-equal
-slice-aggregate-all-equal c = sym (c .before .before .all-sums .kept .0 ∙ length-zeros 2560)
+target-count-requires : tie.Need-target-count-requires
+target-count-requires c κs = within (c .before .before .before .before .before .before .before .before .before .before .before .before .before)
 
-all-equal-requires : tie.Need-all-equal-requires
-all-equal-requires c κs =
-    let s = c .before .before .before .before .before .before .before .before .before .before .before .before .before in
-    let bounds = s .pre .0 .0 in
-    ((bounds, omega (arith, sums-room bounds, length-zeros 2560, c .before .before .all-sums .kept .0)), (s .pre .0 .2, s .pre .0 .3, s .pre .1 .0))
+first-difference-requires : tie.Need-first-difference-requires
+unfolding targetBytes
+first-difference-requires c κs =
+    let s = c .before .before .before .before .before .before .before .before .before .before .before .before .before .before .before in
+    let b = within s in
+    let long = c .before .before .before .evaluate .ensures .long ∙ length-zeros mostRow in
+    omega (arith, c .before .target-count .ensures, b .sizes .target, s .pre .target-long)
 
 returns : tie.Need-returns
 returns c =
-    let s = c .before .before .before .before .before .before .before .before .before .before .before .before .before .before in
+    let at-target-count = c .before .before in
+    let at-evaluate = at-target-count .before .before in
+    let at-unpack-all = at-evaluate .before .before .before .before in
+    let s = at-unpack-all .before .before .before .before .before .before .before .before in
     let a = s .args in
-    let powers = c .before .before .before .before .before .before .before .signature-table .ensures in
-    let sums = c .before .before .before .all-sums .ensures in
-    meets-accepted (s .pre .0 .0) (a .public .now) (a .abq .now) (a .key .now) (a .signature .now) (a .target .now) (c .all-equal .ensures) powers sums
+    let b = within s in
+    let whole : variables (a .set) * (a .set .l * a .set .l) ≤ at-unpack-all .before .signature-count .result = omega (arith, at-unpack-all .before .signature-count .ensures, b .counts .signature) in
+    compared-accepted b (a .public .now) (a .abq .now) (a .key .now) (a .signature .now) (a .target .now) (at-target-count .target-count .ensures)
+    (signature-values b (a .public .now) (a .abq .now) (a .key .now) (a .signature .now) whole (at-unpack-all .unpack-all .ensures) (at-evaluate .evaluate .ensures))
+    (c .first-difference .ensures) refl
 
 pub accepts-spec : {M : Type 1} → statement M
 accepts-spec =
     tie.close
     (tie.spec
-    slice-aggregate-signature-table
-    signature-table-requires
-    slice-aggregate-all-sums
-    slice-aggregate-all-sums-2
-    all-sums-requires
-    slice-aggregate-all-equal
-    all-equal-requires
+    (λ c. search needs)
+    signature-count-requires
+    unpack-all-requires
+    (λ c. search needs)
+    (λ c. search needs)
+    evaluate-requires
+    target-count-requires
+    (λ c. search needs)
+    first-difference-requires
     returns)

@@ -1,0 +1,4 @@
+pub mod Passing
+pub mod Lent
+pub mod Checked
+pub mod Unique

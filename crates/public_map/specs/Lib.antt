@@ -1,0 +1,5 @@
+pub mod MapRows
+pub mod MapPlaces
+pub mod MapSums
+pub mod Values
+pub mod Unique
