@@ -1,8 +1,8 @@
-//! The numbers that a caller can receive, and what page 01 says of each.
+//! The numbers that a caller can receive, and what pages 01 and 02 say of each.
 
 use std::fmt;
 
-/// An operation's answer: page 01's number.
+/// An operation's answer: the pages' number.
 #[derive(Clone, Copy, PartialEq, Eq, PartialOrd, Ord, Debug)]
 pub struct Answer(pub u32);
 
@@ -25,6 +25,11 @@ impl Answer {
     pub const NOT_INVERTIBLE: Answer = Answer(21);
     pub const COUNTS: Answer = Answer(22);
     pub const ENTRY: Answer = Answer(23);
+    pub const LINE: Answer = Answer(30);
+    pub const ODD_DIGITS: Answer = Answer(31);
+    pub const NO_DIGIT: Answer = Answer(32);
+    pub const FIELD: Answer = Answer(33);
+    pub const LARGE_NUMBER: Answer = Answer(34);
 
     pub fn number(self) -> u32 {
         self.0
@@ -32,10 +37,10 @@ impl Answer {
 
     /// Whether the call was refused: every buffer is then as it was.
     pub fn is_refusal(self) -> bool {
-        (10..=23).contains(&self.0)
+        matches!(self.0, 10..=23 | 30..=34)
     }
 
-    /// Page 01's words for the number.
+    /// The pages' words for the number.
     pub fn meaning(self) -> &'static str {
         match self.0 {
             0 => "done, or accepted",
@@ -55,7 +60,12 @@ impl Answer {
             21 => "an A or B cannot be made invertible",
             22 => "packing or unpacking: element and byte counts do not fit",
             23 => "an element or matrix entry is above 15",
-            _ => "no number of page 01",
+            30 => "a line is unfinished, or not empty, no comment and without ' = '",
+            31 => "an odd count of digits",
+            32 => "not a digit, or none in a number",
+            33 => "a field is unknown, repeated, missing or out of order",
+            34 => "a number is above 4294967295",
+            _ => "no number of the pages",
         }
     }
 }

@@ -75,4 +75,13 @@ unsafe extern "C" {
         elements: *mut u8,
         elements_len: usize,
     ) -> u32;
+
+    pub fn snova_decode_hex(
+        digits: *const u8,
+        digits_len: usize,
+        bytes: *mut u8,
+        bytes_len: usize,
+    ) -> u32;
+
+    pub fn snova_responses(file: *const u8, file_len: usize) -> u32;
 }

@@ -112,3 +112,17 @@ pub fn unpack(bytes: &[u8], elements: &mut [u8]) -> Answer {
         ffi::snova_unpack(bytes.as_ptr(), bytes.len(), elements.as_mut_ptr(), elements.len())
     })
 }
+
+/// Decodes a hexadecimal value, digits of either case: 0, 32, 31 or 20.
+pub fn decode_hex(digits: &[u8], bytes: &mut [u8]) -> Answer {
+    // SAFETY: see the head of this file.
+    Answer(unsafe {
+        ffi::snova_decode_hex(digits.as_ptr(), digits.len(), bytes.as_mut_ptr(), bytes.len())
+    })
+}
+
+/// Whether a whole response file is of the format: 0, or its refusal, 30 to 34.
+pub fn responses(file: &[u8]) -> Answer {
+    // SAFETY: see the head of this file.
+    Answer(unsafe { ffi::snova_responses(file.as_ptr(), file.len()) })
+}

@@ -271,7 +271,9 @@ fn response_files_are_written_and_checked() {
     assert!(ran.out.contains("entry 1: pk: "), "{}", ran.out);
     assert!(ran.out.contains("1 of 2 entries agree"), "{}", ran.out);
     std::fs::write(folder().join("broken.rsp"), "count = 0\nseed = 0\n").expect("a file");
-    refused("kat check {}/broken.rsp", 74, &["line 2", "odd count"]);
+    refused("kat check {}/broken.rsp", 31, &["line 2: refused with 31", "odd count"]);
+    std::fs::write(folder().join("short.rsp"), "count = 0\nseed = 00\n").expect("a file");
+    refused("kat check {}/short.rsp", 33, &["at the end: refused with 33"]);
 }
 
 #[test]

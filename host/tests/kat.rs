@@ -25,37 +25,38 @@ fn what_is_written_reads_back() {
     let text = kat::write("SNOVA_24_5_4_SSK", &entries);
     assert!(text.starts_with("# SNOVA_24_5_4_SSK\n\ncount = 0\nseed = 061550234D15"));
     assert!(text.ends_with("\n\n") && text.contains("\n\ncount = 1\n"));
-    assert_eq!(kat::read(&text).expect("a sound file"), entries);
+    assert_eq!(kat::read(text.as_bytes()).expect("a sound file"), entries);
     let lower = text.replace("seed = 061550234D15", "seed = 061550234d15");
-    assert_eq!(kat::read(&lower).expect("digits of either case"), entries);
+    assert_eq!(kat::read(lower.as_bytes()).expect("digits of either case"), entries);
     let spaced = format!("\n\n# first\n{}\n\n\n", text.replace("\n\n", "\n\n# between\n\n\n"));
-    assert_eq!(kat::read(&spaced).expect("more empty lines and comments"), entries);
-    assert_eq!(kat::read("").expect("no entry"), []);
+    assert_eq!(kat::read(spaced.as_bytes()).expect("more empty lines and comments"), entries);
+    assert_eq!(kat::read(b"").expect("no entry"), []);
     let commented = text.replace("\npk = ", "\n# within an entry\npk = ");
-    assert_eq!(kat::read(&commented).expect("a comment within an entry"), entries);
+    assert_eq!(kat::read(commented.as_bytes()).expect("a comment within an entry"), entries);
 }
 
 #[test]
 fn a_fault_names_its_line() {
     let entry = "count = 0\nseed = 00\nmlen = 0\nmsg = \npk = \nsk = AB\nsmlen = 0\nsm = \n";
-    let read = |from: &str, to: &str| kat::read(&entry.replace(from, to));
+    let read = |from: &str, to: &str| kat::read(entry.replace(from, to).as_bytes());
     assert_eq!(read("", "").expect("a sound entry").len(), 1);
     let faults = [
-        ("sm = \n", "sm = ", "line 8: the line is not finished by a line feed"),
-        ("pk = ", "pk =", "line 5: the line has no ' = '"),
-        ("sk = AB", "sk = A", "line 6: field sk: an odd count of hexadecimal digits, 1"),
-        ("sk = AB", "sk = AG", "line 6: field sk: 'G' is no hexadecimal digit"),
-        ("mlen = 0", "mlen = ", "line 3: field mlen: '' is no decimal number"),
-        ("mlen = 0", "mlen = +1", "line 3: field mlen: '+1' is no decimal number"),
-        ("mlen = 0", "mlen = 4294967296", "line 3: field mlen: 4294967296 is above 4294967295"),
-        ("msg = \n", "", "line 4: field 'pk' where 'msg' is to stand"),
-        ("msg = \n", "msg = \nmsg = \n", "line 5: field 'msg' where 'pk' is to stand"),
-        ("msg = \n", "\nmsg = \n", "line 4: the entry ends without its field 'msg'"),
-        ("sm = \n", "", "at the end: the entry ends without its field 'sm'"),
-        ("sm = \n", "sm = \ncount = 1\n", "line 9: field 'count' after the entry's last"),
+        ("sm = \n", "sm = ", "at the end: refused with 30"),
+        ("pk = ", "pk =", "line 5: refused with 30"),
+        ("sk = AB", "sk = A", "line 6: refused with 31"),
+        ("sk = AB", "sk = AG", "line 6: refused with 32"),
+        ("mlen = 0", "mlen = ", "line 3: refused with 32"),
+        ("mlen = 0", "mlen = +1", "line 3: refused with 32"),
+        ("mlen = 0", "mlen = 4294967296", "line 3: refused with 34"),
+        ("msg = \n", "", "line 4: refused with 33"),
+        ("msg = \n", "msg = \nmsg = \n", "line 5: refused with 33"),
+        ("msg = \n", "\nmsg = \n", "line 4: refused with 33"),
+        ("sm = \n", "", "at the end: refused with 33"),
+        ("sm = \n", "sm = \ncount = 1\n", "line 9: refused with 33"),
     ];
     for (from, to, fault) in faults {
-        assert_eq!(read(from, to), Err(fault.to_string()), "{from:?} made {to:?}");
+        let refused = read(from, to).expect_err("a fault").to_string();
+        assert!(refused.starts_with(fault), "{from:?} made {to:?}: {refused}");
     }
 }
 
@@ -132,8 +133,8 @@ fn the_files_in_vectors() {
     println!("{} response files in {}", files.len(), folder.display());
     for path in files {
         let file = path.display();
-        let text = std::fs::read_to_string(&path).expect("a readable file");
-        let entries = kat::read(&text).unwrap_or_else(|fault| panic!("{file}: {fault}"));
+        let bytes = std::fs::read(&path).expect("a readable file");
+        let entries = kat::read(&bytes).unwrap_or_else(|refused| panic!("{file}: {refused}"));
         let scheme = kat::identify(&entries, Engine::Library)
             .unwrap_or_else(|reason| panic!("{file}: {reason}"));
         for entry in &entries {

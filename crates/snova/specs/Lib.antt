@@ -6,3 +6,4 @@ pub mod InNumbers
 pub mod Chain
 pub mod Ways
 pub mod Unique
+pub mod Responses

@@ -2,6 +2,7 @@
 // `interface` is the C interface: the same functions by the page's numbers. What they promise together is in specs/Sentences.antt.
 mod chain;
 mod interface;
+mod response_files;
 
 pub use chain::sign_and_verify;
 pub use ground::Answer;
@@ -14,6 +15,8 @@ pub use interface::snova_verify;
 pub use keys::generate;
 pub use packing::pack;
 pub use packing::unpack;
+pub use response_files::snova_decode_hex;
+pub use response_files::snova_responses;
 pub use salt::salt;
 pub use salt::salt_status;
 pub use sets::Set;

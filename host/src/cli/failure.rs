@@ -1,6 +1,7 @@
 //! What the tool says when it does not do what was asked, and the exit status for it.
 
 use crate::answer::Answer;
+use crate::kat::Refused;
 use crate::set::{SALT, Set};
 
 /// Exit statuses beside page 01's numbers: a wrong command line, a file that fails.
@@ -39,6 +40,12 @@ impl Failure {
             _ => format!("refused with {answer}, set {set}"),
         };
         Failure { status: answer.number() as i32, text }
+    }
+
+    /// A response file that the proved reader refuses.
+    pub fn response(file: &str, refused: &Refused) -> Failure {
+        let status = refused.answer.number() as i32;
+        Failure { status, text: format!("'{file}': {refused}") }
     }
 
     /// A salt that is not 16 bytes: it is refused here where it is hashed before the call.

@@ -15,7 +15,8 @@ pub const COMMAND: Command = Command {
     usage: "check FILE ..\n\
             write SET|all --dir FOLDER [--count NUMBER] [--expansion NAME]",
     notes: "check finds the set by the lengths of an entry and the expansion by its key. It goes through\n\
-            every entry and names the first step at which one disagrees; the exit status is then 1.",
+            every entry and names the first step at which one disagrees; the exit status is then 1. A file that\n\
+            is not of page 02's format is refused with its number, 30 to 34.",
     options: &[
         opt("--dir", "FOLDER", "where files are written"),
         opt("--count", "NUMBER", "of entries in a file (the default is 100)"),
@@ -45,9 +46,9 @@ fn check_files(args: &Args, files: &[String]) -> Result<Answer, Failure> {
 }
 
 fn check_file(args: &Args, file: &str) -> Result<Answer, Failure> {
-    let text = std::fs::read_to_string(file)
+    let bytes = std::fs::read(file)
         .map_err(|error| Failure::file(format!("cannot read '{file}': {error}")))?;
-    let entries = kat::read(&text).map_err(|fault| Failure::file(format!("'{file}': {fault}")))?;
+    let entries = kat::read(&bytes).map_err(|refused| Failure::response(file, &refused))?;
     let scheme = kat::identify(&entries, args.engine()?)
         .map_err(|reason| Failure::file(format!("'{file}': {reason}")))?;
     let title = kat::title(&scheme);

@@ -7,7 +7,7 @@ mod write;
 
 pub use check::{Mismatch, check, identify};
 pub use make::{file_name, make, title};
-pub use read::read;
+pub use read::{Refused, read};
 pub use write::write;
 
 /// One entry of a response file.

@@ -1,83 +1,82 @@
-//! Reads a response file.
-//!
-//! Lines `name = value`, each ended by a line feed; the eight fields in their order; one or more
-//! empty lines between entries, any at either end; comment lines with `#` anywhere.
+//! Reads a response file: the proved reader judges it, and what it accepts is taken apart here.
 
 use super::{Entry, FIELDS};
-use crate::hex;
+use crate::answer::Answer;
+use crate::library;
+use std::fmt;
 
-/// The entries, or the number of the first line at fault, counted from 1, and what is wrong in it.
-pub fn read(text: &str) -> Result<Vec<Entry>, String> {
-    let mut reader = Reader::default();
-    for (at, line) in text.split_inclusive('\n').enumerate() {
-        reader.line(line).map_err(|fault| format!("line {}: {fault}", at + 1))?;
-    }
-    reader.end_entry().map_err(|fault| format!("at the end: {fault}"))?;
-    Ok(reader.entries)
+/// Why a file is refused: the page's number, and the line at fault, counted from 1; none where the
+/// end of the file is at fault.
+#[derive(Clone, Copy, PartialEq, Eq, Debug)]
+pub struct Refused {
+    pub answer: Answer,
+    pub line: Option<usize>,
 }
 
-#[derive(Default)]
-struct Reader {
-    entries: Vec<Entry>,
-    current: Entry,
-    /// How many fields of the current entry are read.
-    fields: usize,
-}
-
-impl Reader {
-    fn line(&mut self, line: &str) -> Result<(), String> {
-        let line = line.strip_suffix('\n').ok_or("the line is not finished by a line feed")?;
-        if line.is_empty() {
-            return self.end_entry();
-        }
-        if line.starts_with('#') {
-            return Ok(());
-        }
-        let (name, value) = line.split_once(" = ").ok_or("the line has no ' = '")?;
-        if self.fields == FIELDS.len() {
-            return Err(format!("field '{name}' after the entry's last"));
-        }
-        let expected = FIELDS[self.fields];
-        if name != expected {
-            return Err(format!("field '{name}' where '{expected}' is to stand"));
-        }
-        self.field(name, value).map_err(|fault| format!("field {name}: {fault}"))?;
-        self.fields += 1;
-        Ok(())
-    }
-
-    fn field(&mut self, name: &str, value: &str) -> Result<(), String> {
-        let entry = &mut self.current;
-        match name {
-            "count" => entry.count = decimal(value)?,
-            "seed" => entry.seed = hex::decode(value)?,
-            "mlen" => entry.mlen = decimal(value)?,
-            "msg" => entry.msg = hex::decode(value)?,
-            "pk" => entry.pk = hex::decode(value)?,
-            "sk" => entry.sk = hex::decode(value)?,
-            "smlen" => entry.smlen = decimal(value)?,
-            _ => entry.sm = hex::decode(value)?,
-        }
-        Ok(())
-    }
-
-    fn end_entry(&mut self) -> Result<(), String> {
-        match self.fields {
-            0 => Ok(()),
-            8 => {
-                self.entries.push(std::mem::take(&mut self.current));
-                self.fields = 0;
-                Ok(())
-            }
-            missing => Err(format!("the entry ends without its field '{}'", FIELDS[missing])),
+impl fmt::Display for Refused {
+    fn fmt(&self, f: &mut fmt::Formatter) -> fmt::Result {
+        match self.line {
+            Some(line) => write!(f, "line {line}: refused with {}", self.answer),
+            None => write!(f, "at the end: refused with {}", self.answer),
         }
     }
 }
 
-/// Decimal digits alone: no sign and no space, which `parse` would let pass.
-fn decimal(value: &str) -> Result<u32, String> {
-    if value.is_empty() || !value.bytes().all(|byte| byte.is_ascii_digit()) {
-        return Err(format!("'{value}' is no decimal number"));
+/// The entries of a file, or its refusal.
+pub fn read(file: &[u8]) -> Result<Vec<Entry>, Refused> {
+    match library::responses(file) {
+        Answer::DONE => Ok(entries(file)),
+        answer => Err(Refused { answer, line: line_at_fault(file) }),
     }
-    value.parse().map_err(|_| format!("{value} is above {}", u32::MAX))
+}
+
+/// The first line that is at fault. Lines are sound together exactly where an unfinished line after
+/// them is refused with 30 and an unknown field after them with 33, so the proved reader says which
+/// is the first that is not.
+fn line_at_fault(file: &[u8]) -> Option<usize> {
+    let ends: Vec<usize> =
+        file.iter().enumerate().filter(|(_, byte)| **byte == b'\n').map(|(at, _)| at + 1).collect();
+    let sound = |end: &usize| {
+        let probe = |after: &[u8]| library::responses(&[&file[..*end], after].concat());
+        probe(b"#") == Answer::LINE && probe(b"x = \n") == Answer::FIELD
+    };
+    let first = ends.partition_point(sound);
+    (first < ends.len()).then_some(first + 1)
+}
+
+/// The entries of an accepted file.
+fn entries(file: &[u8]) -> Vec<Entry> {
+    let lines = file.split(|byte| *byte == b'\n');
+    let values: Vec<&[u8]> =
+        lines.filter(|line| !line.is_empty() && line[0] != b'#').map(value).collect();
+    values.chunks_exact(FIELDS.len()).map(entry).collect()
+}
+
+fn entry(values: &[&[u8]]) -> Entry {
+    Entry {
+        count: number(values[0]),
+        seed: bytes(values[1]),
+        mlen: number(values[2]),
+        msg: bytes(values[3]),
+        pk: bytes(values[4]),
+        sk: bytes(values[5]),
+        smlen: number(values[6]),
+        sm: bytes(values[7]),
+    }
+}
+
+/// What stands after the first ` = ` of a field's line.
+fn value(line: &[u8]) -> &[u8] {
+    let at = line.windows(3).position(|part| part == b" = ").expect("an accepted line");
+    &line[at + 3..]
+}
+
+fn number(digits: &[u8]) -> u32 {
+    digits.iter().fold(0, |number, digit| number * 10 + u32::from(digit - b'0'))
+}
+
+fn bytes(digits: &[u8]) -> Vec<u8> {
+    let mut bytes = vec![0; digits.len() / 2];
+    assert_eq!(library::decode_hex(digits, &mut bytes), Answer::DONE, "an accepted value");
+    bytes
 }

@@ -1,0 +1,10 @@
+pub mod Machine
+pub mod Scan
+pub mod Within
+pub mod Pieces
+pub mod Reads
+pub mod Events
+pub mod Cuts
+pub mod Shown
+pub mod Seeks
+pub mod Collecting

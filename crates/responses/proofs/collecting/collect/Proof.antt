@@ -1,0 +1,102 @@
+-- The value stands where the search found its line (seeks-here); decoded, it is what is promised (collects-here). Else nothing is written.
+use mathlib.Core.Path.{_≡_, sym, ap, subst, _∙_}
+use Prim.Native.Nat.{_+_, _-_}
+use lib.ListN.{take, drop}
+use Rattle.response_format.specs.Lent.{Decodes, Collects, soughtIn}
+use Rattle.response_machine.specs.Seeks.{Here, seeks-here, seeks-nowhere}
+use Rattle.response_machine.specs.Collecting.{collects-here, collects-nothing}
+use native.Mathlib.Omega.{arith}
+use borrow.Author.Needs.{needs}
+use Rattle.responses.proofs.collecting.collect.Statement.{statement}
+use Rattle.responses.proofs.collecting.collect.Tie as tie
+
+-- where the search found the line, the value stands after the label
+here : (p : tie.After-place) → let a = p .before .before .before .before .before .args in
+    Here (a .file .now) (a .field) (p .place .given .0 .0) (p .place .given .0 .1 .0) (soughtIn (a .file .now) (a .entry) (a .field))
+here p = let f = p .before .before in let a = f .before .before .before .args in seeks-here (a .file .now) (a .entry) (a .field) (f .find .ensures) (p .place .given .1)
+
+find-requires : tie.Need-find-requires
+find-requires c κs = search needs
+
+enum-known-place : tie.Need-enum-known-place
+enum-known-place c = search needs
+
+label-length-requires : tie.Need-label-length-requires
+label-length-requires c κs = search needs
+
+wider-requires : tie.Need-wider-requires
+wider-requires c κs = search needs
+
+add-from : tie.Need-add-from
+add-from c =
+    let h = here (c .before .before .before) in omega (arith, h .low, h .high, c .wider .ensures, c .before .label-length .ensures)
+
+sub-decode : tie.Need-sub-decode
+sub-decode c =
+    let h = here (c .before .before .before) in omega (arith, h .low, h .high, c .wider .ensures, c .before .label-length .ensures)
+
+part-decode-start : tie.Need-part-decode-start
+part-decode-start c =
+    let h = here (c .before .before .before) in omega (arith, h .low, h .high, c .wider .ensures, c .before .label-length .ensures)
+
+part-decode-end : tie.Need-part-decode-end
+part-decode-end c =
+    here (c .before .before .before) .high
+
+decode-requires : tie.Need-decode-requires
+decode-requires c κs = search needs
+
+passed-on-requires : tie.Need-passed-on-requires
+passed-on-requires c κs = search needs
+
+enum-known-place-2 : tie.Need-enum-known-place-2
+enum-known-place-2 c = search needs
+
+not-found-requires : tie.Need-not-found-requires
+not-found-requires c κs = search needs
+
+same-length : tie.Need-same-length
+same-length c = search needs
+
+returns : tie.Need-returns
+returns c =
+    let d = c .before .before .before in
+    let w = d .before .before .before in
+    let p = w .before .before .before in
+    let a = p .before .before .before .before .before .args in
+    let line = p .place .given .0 .0 in
+    let to = p .place .given .0 .1 .0 in
+    let decodes =
+    subst (λ x. Decodes (take (to - (line + x)) (drop (line + x) (a .file .now))) (a .out .now) (d .decode .result) (d .decode .last .1 .0))
+    (w .wider .ensures ∙ w .before .label-length .ensures) (d .decode .ensures) in
+    subst (λ r. Collects (a .file .now) (a .entry) (a .field) (a .out .now) r (d .decode .last .1 .0)) (sym (c .passed-on .ensures))
+    (collects-here (a .file .now) (a .entry) (a .field) (a .out .now) (here p) decodes)
+
+returns-2 : tie.Need-returns-2
+returns-2 c =
+    let p = c .before .before in
+    let f = p .before .before in
+    let a = f .before .before .before .args in
+    let n = seeks-nowhere (a .file .now) (a .entry) (a .field) (f .find .ensures) (p .place2 .given .1) in
+    subst (λ r. Collects (a .file .now) (a .entry) (a .field) (a .out .now) r (a .out .now)) (sym (c .not-found .ensures))
+    (collects-nothing (a .file .now) (a .entry) (a .field) (a .out .now) _ n)
+
+pub collect-spec : {M : Type 1} → statement M
+collect-spec =
+    tie.close
+    (tie.spec
+    find-requires
+    enum-known-place
+    label-length-requires
+    wider-requires
+    add-from
+    sub-decode
+    part-decode-start
+    part-decode-end
+    decode-requires
+    passed-on-requires
+    enum-known-place-2
+    not-found-requires
+    same-length
+    returns
+    returns-2)

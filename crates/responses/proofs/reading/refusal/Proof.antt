@@ -1,0 +1,25 @@
+-- The reader fed the whole file ends with the file's refusal: `reads`.
+use mathlib.Core.Path.{_≡_, ap, _∙_}
+use Rattle.response_machine.specs.Reads.{fed, endOf, reads}
+use native.Mathlib.Omega.{arith}
+use borrow.Author.Needs.{needs}
+use Rattle.responses.proofs.reading.refusal.Statement.{statement}
+use Rattle.responses.proofs.reading.refusal.Tie as tie
+
+start-requires : tie.Need-start-requires
+start-requires c κs = search needs
+
+absorb-requires : tie.Need-absorb-requires
+absorb-requires c κs = search needs
+
+end-requires : tie.Need-end-requires
+end-requires c κs = search needs
+
+returns : tie.Need-returns
+returns c =
+    let file = c .before .before .before .before .args .file .now in
+    let last = c .before .absorb .ensures ∙ ap (λ r. fed r file) (c .before .before .start .ensures) in
+    c .end .ensures ∙ ap endOf last ∙ reads file
+
+pub refusal-spec : {M : Type 1} → statement M
+refusal-spec = tie.close (tie.spec start-requires absorb-requires end-requires returns)
