@@ -37,7 +37,7 @@ impl Answer {
 
     /// Whether the call was refused: every buffer is then as it was.
     pub fn is_refusal(self) -> bool {
-        matches!(self.0, 10..=23 | 30..=34)
+        matches!(self.0, 10..=23 | 30..=34 | 40..=46)
     }
 
     /// The pages' words for the number.
@@ -65,6 +65,13 @@ impl Answer {
             32 => "not a digit, or none in a number",
             33 => "a field is unknown, repeated, missing or out of order",
             34 => "a number is above 4294967295",
+            40 => "the book's size is not whole blocks, or there are too many",
+            41 => "a block's check is wrong",
+            42 => "a block's kind, zero byte, length or padding is wrong",
+            43 => "a block is out of turn",
+            44 => "good, but its exercise is spoiled",
+            45 => "an empty field, a kind outside 1 to 7 or a wrong order",
+            46 => "too many blocks",
             _ => "no number of the pages",
         }
     }

@@ -7,6 +7,7 @@
 
 pub mod answer;
 pub mod bench;
+pub mod books;
 pub mod cli;
 mod clock;
 pub mod engine;

@@ -8,3 +8,4 @@ pub mod AnswerLaws
 pub mod First
 pub mod Applies
 pub mod Outcome
+pub mod Paste

@@ -7,3 +7,4 @@ pub mod Chain
 pub mod Ways
 pub mod Unique
 pub mod Responses
+pub mod BookCalls

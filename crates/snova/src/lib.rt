@@ -1,9 +1,15 @@
 // The model: SNOVA version 2 over GF(16), page 01. Here stand the functions that users call; each crate below has one of them, with its contract and its proof.
 // `interface` is the C interface: the same functions by the page's numbers. What they promise together is in specs/Sentences.antt.
+mod book_calls;
 mod chain;
 mod interface;
 mod response_files;
 
+pub use book_calls::snova_book_field;
+pub use book_calls::snova_book_payload;
+pub use book_calls::snova_book_read;
+pub use book_calls::snova_book_salvage;
+pub use book_calls::snova_book_write;
 pub use chain::sign_and_verify;
 pub use ground::Answer;
 pub use interface::snova_keygen;

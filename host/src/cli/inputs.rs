@@ -16,7 +16,8 @@ pub fn bytes(args: &Args, name: &str) -> Result<Vec<u8>, Failure> {
     read(name, args.required(name)?)
 }
 
-fn read(name: &str, value: &str) -> Result<Vec<u8>, Failure> {
+/// The bytes that a word names.
+pub fn read(name: &str, value: &str) -> Result<Vec<u8>, Failure> {
     if let Some(digits) = value.strip_prefix("hex:") {
         return hex::decode(digits).map_err(|fault| Failure::usage(format!("{name}: {fault}")));
     }

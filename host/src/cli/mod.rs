@@ -2,6 +2,7 @@
 
 mod args;
 mod bench;
+mod book;
 mod failure;
 mod inputs;
 mod kat;
@@ -17,7 +18,7 @@ mod verify;
 use args::{Args, Command};
 use failure::Failure;
 
-const COMMANDS: [&Command; 8] = [
+const COMMANDS: [&Command; 9] = [
     &sizes::COMMAND,
     &keygen::COMMAND,
     &sign::COMMAND,
@@ -25,6 +26,7 @@ const COMMANDS: [&Command; 8] = [
     &salt::COMMAND,
     &streams::COMMAND,
     &kat::COMMAND,
+    &book::COMMAND,
     &bench::COMMAND,
 ];
 
@@ -79,7 +81,7 @@ fn overview() -> String {
     text += "\n\
          A set is written 24,5,4 or SNOVA_24_5_4. BYTES are a file's name, hex:0A1B.., zeros:COUNT,\n\
          or - for standard input. The exit status is page 01's number: 0 done or accepted, 1 not\n\
-         accepted, 2 redo, 10 to 23 refused. 64 stands for a wrong command line, 74 for a file that\n\
+         accepted, 2 redo, 10 to 46 refused. 64 stands for a wrong command line, 74 for a file that\n\
          cannot be read or written. Nothing is written on a refusal.\n";
     text
 }

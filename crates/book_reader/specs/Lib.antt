@@ -1,0 +1,4 @@
+pub mod Passed
+pub mod Parts
+pub mod Told
+pub mod Unique

@@ -1,0 +1,22 @@
+-- `book_writer::lists_fit` meets its contract: the definition, opened.
+use native.Mathlib.Omega.{arith}
+use Rattle.book_writer.specs.Lists.{listsFit}
+use borrow.Author.Needs.{needs}
+use Rattle.book_writer.proofs.lists.lists_fit.Statement.{statement}
+use Rattle.book_writer.proofs.lists.lists_fit.Tie as tie
+
+sizes-fit-requires : tie.Need-sizes-fit-requires
+sizes-fit-requires c κs = search needs
+
+both-requires : tie.Need-both-requires
+both-requires c κs = search needs
+
+both-requires-2 : tie.Need-both-requires-2
+both-requires-2 c κs = search needs
+
+returns : tie.Need-returns
+unfolding listsFit
+returns c = cc
+
+pub lists-fit-spec : {M : Type 1} → statement M
+lists-fit-spec = tie.close (tie.spec sizes-fit-requires both-requires both-requires-2 returns)

@@ -1,0 +1,82 @@
+-- `salvage::judge` meets its contract: the first b blocks are judged, and `before` is the nearest good block before block b. Rests on Judging.
+use Prim.Native.Nat.{_+_, _-_, _/_, _≤_}
+use lib.ListN.{length}
+use Rattle.books.specs.Book.{whole-says}
+use Rattle.salvage.specs.Judging.{fault-lt, Judges, judges-none, judges-next, judges-end}
+use borrow.Author.Needs.{needs}
+use native.Mathlib.Omega.{arith}
+use Rattle.salvage.proofs.judging.judge.Statement.{statement}
+use Rattle.salvage.proofs.judging.judge.Tie as tie
+
+abbrev Inv-loop : tie.InvT-loop
+Inv-loop book list₀ n before₀ b₀ list before b = Judges book list₀ n b before list
+
+abbrev μ-loop : tie.MeasureT-loop
+μ-loop book list₀ n before₀ b₀ list before b = n - b
+
+loop-holds : tie.Need-loop-holds Inv-loop μ-loop
+loop-holds c = judges-none _ _ _
+
+block-at-requires : tie.Need-block-at-requires Inv-loop μ-loop
+block-at-requires c κs = search needs
+
+add-fault-of : tie.Need-add-fault-of Inv-loop μ-loop
+add-fault-of c = search needs
+
+cast-fault-of : tie.Need-cast-fault-of Inv-loop μ-loop
+cast-fault-of c = let begin = c .before .before .before .before .before in omega (arith, whole-says (begin .args .book .now) (begin .pre .is) .1)
+
+fault-of-requires : tie.Need-fault-of-requires Inv-loop μ-loop
+fault-of-requires c κs = search needs
+
+cast-list : tie.Need-cast-list Inv-loop μ-loop
+cast-list c = omega (arith, c .fault-of .ensures, fault-lt (c .before .before .before .loop .b + 1) (c .before .before .before .loop .before) (c .before .block-at .result .now))
+
+slice-write-list : tie.Need-slice-write-list Inv-loop μ-loop
+slice-write-list c = search needs
+
+head-of-requires : tie.Need-head-of-requires Inv-loop μ-loop
+head-of-requires c κs = search needs
+
+later-requires : tie.Need-later-requires Inv-loop μ-loop
+later-requires c κs = search needs
+
+add-b : tie.Need-add-b Inv-loop μ-loop
+add-b c = search needs
+
+loop-less : tie.Need-loop-less Inv-loop μ-loop
+loop-less c = search needs
+
+loop-again : tie.Need-loop-again Inv-loop μ-loop
+loop-again c =
+    let block = c .before .before .before in
+    let at = block .before .before in
+    judges-next (at .loop .inv) (omega arith) (omega (arith, at .before .before .before .pre .long)) (block .block-at .ensures) (c .before .before .fault-of .ensures) (c .before .head-of .ensures)
+    (c .later .ensures)
+
+same-length : tie.Need-same-length Inv-loop μ-loop
+same-length c = c .before .loop .inv .long
+
+returns : tie.Need-returns Inv-loop μ-loop
+returns c = judges-end (c .before .loop .inv) (omega arith) (c .before .before .before .before .pre .long)
+
+pub judge-spec : {M : Type 1} → statement M
+judge-spec =
+    tie.close
+    (tie.spec
+    Inv-loop
+    μ-loop
+    loop-holds
+    block-at-requires
+    add-fault-of
+    cast-fault-of
+    fault-of-requires
+    cast-list
+    slice-write-list
+    head-of-requires
+    later-requires
+    add-b
+    loop-less
+    loop-again
+    same-length
+    returns)
