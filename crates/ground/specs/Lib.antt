@@ -2,6 +2,7 @@ pub mod Pick
 pub mod Tests
 pub mod Fill
 pub mod Segment
+pub mod Pieces
 pub mod Place
 pub mod Answers
 pub mod AnswerLaws

@@ -1,0 +1,4 @@
+pub mod Seeds
+pub mod Expansion
+pub mod Streams
+pub mod Unique

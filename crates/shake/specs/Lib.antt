@@ -1,0 +1,7 @@
+pub mod Sponge
+pub mod Padding
+pub mod Feed
+pub mod FeedLaws
+pub mod Bytes
+pub mod Strings
+pub mod Unique
