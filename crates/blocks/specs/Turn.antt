@@ -10,8 +10,8 @@ use native.Mathlib.Omega.{arith}
 use lib.Dec.{eqb, ltb}
 use borrow.Author.Tests.{eqb-true, eq-eqb, ltb-true, lt-ltb}
 use Rattle.ground.specs.Pick.{both, both-left, both-right, both-true}
-use Rattle.ground.specs.Answers.{Rule, unless, lowest, met-none, met-more, lowest-met}
-use Rattle.ground.specs.Lowest.{lowest-passes}
+use Rattle.ground.specs.Answers.{Rule, unless, first, met-none, met-more, first-met}
+use Rattle.ground.specs.First.{first-passes}
 use Rattle.blocks.specs.declared.Head.{Head}
 use Rattle.blocks.specs.Block.{checked, formed, headOf}
 
@@ -39,7 +39,7 @@ abbrev pub faultRules : ℕ → Head → List ℕ → List Rule
 faultRules place before s = unless 41 (checked place s) ∷ unless 42 (formed s) ∷ unless 43 (inTurn before (headOf s)) ∷ []
 
 unfoldable pub faultOf : ℕ → Head → List ℕ → ℕ
-faultOf place before s = lowest (faultRules place before s)
+faultOf place before s = first (faultRules place before s)
 
 -- ---- turns as a relation
 
@@ -112,15 +112,15 @@ pub no-fault : (place : ℕ) (before : Head) (s : List ℕ) → faultOf place be
     → (checked place s ≡ true) × ((formed s ≡ true) × (inTurn before (headOf s) ≡ true))
 unfolding faultOf
 no-fault place before s e =
-    let a = lowest-passes 41 (checked place s) (unless 42 (formed s) ∷ unless 43 (inTurn before (headOf s)) ∷ []) (omega arith) e in
-    let b = lowest-passes 42 (formed s) (unless 43 (inTurn before (headOf s)) ∷ []) (omega arith) (a .1) in
-    let c = lowest-passes 43 (inTurn before (headOf s)) [] (omega arith) (b .1) in
+    let a = first-passes 41 (checked place s) (unless 42 (formed s) ∷ unless 43 (inTurn before (headOf s)) ∷ []) (omega arith) e in
+    let b = first-passes 42 (formed s) (unless 43 (inTurn before (headOf s)) ∷ []) (omega arith) (a .1) in
+    let c = first-passes 43 (inTurn before (headOf s)) [] (omega arith) (b .1) in
     (a .0, (b .0, c .0))
 
 pub fault-none : (place : ℕ) (before : Head) (s : List ℕ) → checked place s ≡ true → formed s ≡ true → inTurn before (headOf s) ≡ true → faultOf place before s ≡ 0
 unfolding faultOf
-fault-none place before s c f t = lowest-met (met-more c (met-more f (met-more t met-none)))
+fault-none place before s c f t = first-met (met-more c (met-more f (met-more t met-none)))
 
 pub fault-41 : (place : ℕ) (before : Head) (s : List ℕ) → checked place s ≡ false → faultOf place before s ≡ 41
-unfolding faultOf lowest
+unfolding faultOf first
 fault-41 place before s c = rw c

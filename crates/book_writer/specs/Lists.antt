@@ -12,7 +12,7 @@ use lib.Dec.{eqb, leb, ltb}
 use lib.ListN.{length, getD, take, drop, length-drop}
 use lib.Seq.{length-take-le}
 use Rattle.ground.specs.Pick.{both, both-left, both-right, both-true}
-use Rattle.ground.specs.Answers.{Rule, unless, lowest, numberOf, answerOf}
+use Rattle.ground.specs.Answers.{Rule, unless, first, numberOf, answerOf}
 use Rattle.ground.specs.AnswerLaws.{number-of-answer}
 use Rattle.ground.specs.Outcome.{Writes, unique-writes, unique-equation}
 use Rattle.ground.specs.Paste.{Pasted}
@@ -59,7 +59,7 @@ writeRules es ks ns d out =
 
 -- What the writer promises of its answer and of the lent output, before and after.
 abbrev pub Written : List ℕ → List ℕ → List ℕ → List ℕ → List ℕ → Answer → List ℕ → Type 0
-Written es ks ns d before r after = Writes (lowest (writeRules es ks ns d before)) (bookOf (fieldsIn es ks ns d)) before r after
+Written es ks ns d before r after = Writes (first (writeRules es ks ns d before)) (bookOf (fieldsIn es ks ns d)) before r after
 
 pub unique-write : (es ks ns d : List ℕ) {before : List ℕ} {r r′ : Answer} {after after′ : List ℕ} → Written es ks ns d before r after → Written es ks ns d before r′ after′
     → (r ≡ r′) × (after ≡ after′)

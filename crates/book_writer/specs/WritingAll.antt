@@ -10,10 +10,10 @@ use lib.ListN.{length, getD, take, drop, length-append, length-take, length-drop
 use lib.Seq.{length-take-le}
 use borrow.Author.Tests.{eqb-true, leb-true, lt-leb, le-leb}
 use Rattle.ground.specs.Pick.{pick, both, both-left, both-right}
-use Rattle.ground.specs.Answers.{unless, lowest}
+use Rattle.ground.specs.Answers.{unless, first}
 use Rattle.ground.specs.AnswerLaws.{answer-done}
 use Rattle.ground.specs.declared.Answer.the-variants.{Done}
-use Rattle.ground.specs.Lowest.{lowest-passes}
+use Rattle.ground.specs.First.{first-passes}
 use Rattle.blocks.specs.Block.{Part}
 use Rattle.books.specs.Book.{written, readNumber, bookParts}
 use Rattle.books.specs.Fields.{cut, lastPart, partsOf, bookOf, fieldsOf, round-trip, Full, written-full}
@@ -153,22 +153,22 @@ writing-on {ns = ns} {d = d} {at = at} {i = i} a w l p = writing-next a w l (tak
 -- ---- refusals
 
 module _ (es ks ns d out : List ℕ) where
-  pub refuse-lists : listsFit es ks ns d ≡ false → 45 ≡ lowest (writeRules es ks ns d out)
-  unfolding writeRules lowest
+  pub refuse-lists : listsFit es ks ns d ≡ false → 45 ≡ first (writeRules es ks ns d out)
+  unfolding writeRules first
   refuse-lists e = rw e
 
-  pub refuse-order : listsFit es ks ns d ≡ true → orderly (length es) 0 0 es ks ns ≡ false → 45 ≡ lowest (writeRules es ks ns d out)
-  unfolding writeRules lowest
+  pub refuse-order : listsFit es ks ns d ≡ true → orderly (length es) 0 0 es ks ns ≡ false → 45 ≡ first (writeRules es ks ns d out)
+  unfolding writeRules first
   refuse-order e o = rw (e, o)
 
   pub refuse-blocks : {n : ℕ} → listsFit es ks ns d ≡ true → orderly (length es) 0 0 es ks ns ≡ true → n ≡ min (blocks (length ns) ns) 65537 → 65536 < n
-      → 46 ≡ lowest (writeRules es ks ns d out)
-  unfolding writeRules lowest
+      → 46 ≡ first (writeRules es ks ns d out)
+  unfolding writeRules first
   refuse-blocks e o c l = rw (e, o, lt-leb (blocks (length ns) ns) 65536 (omega arith))
 
   pub refuse-output : {n r : ℕ} → listsFit es ks ns d ≡ true → orderly (length es) 0 0 es ks ns ≡ true → n ≡ min (blocks (length ns) ns) 65537 → n ≤ 65536
-      → r ≡ pick (eqb (length out) (512 * n)) 0 20 → r ≡ lowest (writeRules es ks ns d out)
-  unfolding writeRules lowest
+      → r ≡ pick (eqb (length out) (512 * n)) 0 20 → r ≡ first (writeRules es ks ns d out)
+  unfolding writeRules first
   refuse-output {n} {r} e o c l p =
       let same : n ≡ blocks (length ns) ns = omega arith in
       rw (e, o, le-leb (blocks (length ns) ns) 65536 (omega arith)) (rw same at p)
@@ -182,20 +182,20 @@ module _ (es ks ns d out : List ℕ) where
       )
 
   -- no refusal: all that the loop builds on
-  pub not-refused : lowest (writeRules es ks ns d out) ≡ 0 → Allowed out es ks ns d
+  pub not-refused : first (writeRules es ks ns d out) ≡ 0 → Allowed out es ks ns d
   unfolding writeRules
   not-refused z =
       let later = unless 46 (leb (blocks (length ns) ns) 65536) ∷ unless 20 (eqb (length out) (512 * blocks (length ns) ns)) ∷ [] in
-      let a = lowest-passes 45 (both (listsFit es ks ns d) (orderly (length es) 0 0 es ks ns)) later (omega arith) z in
-      let b = lowest-passes 46 (leb (blocks (length ns) ns) 65536) (unless 20 (eqb (length out) (512 * blocks (length ns) ns)) ∷ []) (omega arith) (a .1) in
-      let c = lowest-passes 20 (eqb (length out) (512 * blocks (length ns) ns)) [] (omega arith) (b .1) in
+      let a = first-passes 45 (both (listsFit es ks ns d) (orderly (length es) 0 0 es ks ns)) later (omega arith) z in
+      let b = first-passes 46 (leb (blocks (length ns) ns) 65536) (unless 20 (eqb (length out) (512 * blocks (length ns) ns)) ∷ []) (omega arith) (a .1) in
+      let c = first-passes 20 (eqb (length out) (512 * blocks (length ns) ns)) [] (omega arith) (b .1) in
       allowed out es ks ns d (both-left (listsFit es ks ns d) (orderly (length es) 0 0 es ks ns) (a .0)) (both-right (listsFit es ks ns d) (orderly (length es) 0 0 es ks ns) (a .0))
       (leb-true _ _ (b .0)) (eqb-true _ _ (c .0))
 
 -- ---- what is written with 0 is read with 0, and the fields read are those that the lists say
 pub write-then-read : (es ks ns d : List ℕ) {before after : List ℕ} → Written es ks ns d before Done after → (readNumber after ≡ 0) × (fieldsOf after ≡ fieldsIn es ks ns d)
 write-then-read es ks ns d {before} {after} w =
-    let none = answer-done (lowest (writeRules es ks ns d before)) (w .answer) refl in
+    let none = answer-done (first (writeRules es ks ns d before)) (w .answer) refl in
     let a = not-refused es ks ns d before none in
     rw (w .done none) (round-trip (fieldsIn es ks ns d) (rise es ks ns d (a .bytes) (a .orders)) (omega (arith, count-fields a, a .few)))
 
@@ -203,7 +203,7 @@ write-then-read es ks ns d {before} {after} w =
 pub write-then-walk : (es ks ns d : List ℕ) {before after : List ℕ} → Written es ks ns d before Done after
     → (walk (length after / 512) after 0 ≡ fieldsIn es ks ns d) × Full (bookParts after)
 write-then-walk es ks ns d {before} {after} w =
-    let none = answer-done (lowest (writeRules es ks ns d before)) (w .answer) refl in
+    let none = answer-done (first (writeRules es ks ns d before)) (w .answer) refl in
     let a = not-refused es ks ns d before none in
     let up = rise es ks ns d (a .bytes) (a .orders) in
     rw (w .done none) (walk-written (fieldsIn es ks ns d) up (omega (arith, count-fields a, a .few)), written-full (fieldsIn es ks ns d) up)

@@ -3,7 +3,7 @@ ghost use mathlib.Core.Path.{_≡_};
 ghost use Prim.Native.Nat.{_+_, _*_, min};
 ghost use lib.Dec.{eqb};
 ghost use lib.ListN.{length};
-ghost use Rattle.ground.specs.Answers.{lowest};
+ghost use Rattle.ground.specs.Answers.{first};
 ghost use Rattle.books.specs.Fields.{lastPart};
 ghost use Rattle.book_writer.specs.Lists.{listsFit, fieldFits, orderly, total, blocks as Lists·blocks, writeRules};
 use crate::parts::least;
@@ -98,7 +98,7 @@ pub fn write_refusal(
     payload: &[u8],
     out: &[u8],
 ) -> u32
-    ensures { λ r. ⌜ r ≡ lowest (writeRules (now (exercises .entry)) (now (kinds .entry)) (now (sizes .entry)) (now (payload .entry)) (now (out .entry))) ⌝ }
+    ensures { λ r. ⌜ r ≡ first (writeRules (now (exercises .entry)) (now (kinds .entry)) (now (sizes .entry)) (now (payload .entry)) (now (out .entry))) ⌝ }
 {
     if !lists_fit(exercises, kinds, sizes, payload) {
         return 45;

@@ -13,8 +13,8 @@ use lib.ListN.{length, take, drop, length-drop}
 use lib.Seq.{drop-drop}
 use borrow.Author.Tests.{eq-eqb, ne-eqb}
 use Rattle.ground.specs.Pick.{pick}
-use Rattle.ground.specs.Answers.{lowest}
-use Rattle.ground.specs.Applies.{Lowest, lowest-exactly}
+use Rattle.ground.specs.Answers.{first}
+use Rattle.ground.specs.Applies.{Lowest, first-lowest}
 use Rattle.blocks.specs.declared.Head.{Head}
 use Rattle.blocks.specs.Block.{blockAt, headOf, checked, formed}
 use Rattle.blocks.specs.Altered.{Bytes, Altered, altered-unchecked}
@@ -48,7 +48,7 @@ pub record FirstAtFault (s : List ℕ) (f : ℕ) : Type 0 where
 -- the lowest number that applies to a block
 pub fault-lowest : (place : ℕ) (before : Head) (s : List ℕ) (f : ℕ) → 0 < f → (faultOf place before s ≡ f) ↔ Lowest f (faultRules place before s)
 unfolding faultOf
-fault-lowest place before s f l = lowest-exactly 40 (faultRules place before s) tt f l
+fault-lowest place before s f l = first-lowest 40 (faultRules place before s) tt f l
 
 -- the blocks from block b on
 faults-on : (n b : ℕ) (s : List ℕ) → faultFrom (suc n) (b + 1) (headBefore b s) (drop (512 * b) s) ≡ orElse (faultAt b s) (faultFrom n (suc b + 1) (headBefore (suc b) s) (drop (512 * suc b) s))
@@ -129,7 +129,7 @@ first-decides s f z w = (
 -- ---- 40
 
 fault-not-40 : (place : ℕ) (before : Head) (s : List ℕ) → faultOf place before s ≡ 40 → ⊥
-unfolding faultOf lowest
+unfolding faultOf first
 fault-not-40 place before s = by (checked place s) (formed s) (inTurn before (headOf s))
   where
     by : (a b c : Bool) → _≡_ {A = ℕ} (pick a (pick b (pick c 0 43) 42) 41) 40 → ⊥

@@ -1,4 +1,4 @@
--- Answers and refusals: an operation's refusals are one list of (number, what must be met), in order, and the lowest that applies is given.
+-- Answers and refusals: an operation's refusals are one list of (number, what must be met), in order, and the first that applies is given.
 -- Rests on Pick.
 use mathlib.Core.Path.{_≡_, refl}
 use mathlib.Core.Bool.{Bool, true, false}
@@ -17,7 +17,7 @@ pub record Rule : Type 0 where
 abbrev pub unless : ℕ → Bool → Rule
 unless n b = record { number = n; met = b }
 
--- the number of the first rule that is not met, or 0: the lists below are in rising order, so the first is the lowest
+-- the number of the first rule that is not met, or 0
 unfoldable pub first : List Rule → ℕ
 first [] = 0
 first (r ∷ rs) = pick (r .met) (first rs) (r .number)

@@ -9,8 +9,8 @@ use native.Mathlib.Omega.{arith}
 use lib.Dec.{T, ltb, ltb→lt}
 use Rattle.ground.specs.Pick.{both}
 use Rattle.ground.specs.Tests.{both-first, both-rest}
-use Rattle.ground.specs.Answers.{Rule}
-use Rattle.ground.specs.First.{First, first-here, first-later}
+use Rattle.ground.specs.Answers.{Rule, first}
+use Rattle.ground.specs.First.{First, first-here, first-later, first-exactly}
 
 -- refusal n applies: there is a rule with this number whose condition is not met
 pub record Applies (n : ℕ) (rules : List Rule) : Type 0 where
@@ -93,3 +93,10 @@ first-of-lowest a n (r ∷ rs) t w = by (r .met) refl (first-of-lowest (r .numbe
 -- in a list whose numbers rise the first that applies is the lowest
 pub lowest-exactly : (a : ℕ) (rs : List Rule) → T (rising a rs) → (n : ℕ) → First n rs ↔ Lowest n rs
 lowest-exactly a rs t n = (lowest-of-first a t, first-of-lowest a n rs t)
+
+-- so there the number that is given is the lowest that applies
+pub first-lowest : (a : ℕ) (rs : List Rule) → T (rising a rs) → (n : ℕ) → 0 < n → (first rs ≡ n) ↔ Lowest n rs
+first-lowest a rs t n h =
+    let exact = first-exactly rs n h in
+    let low = lowest-exactly a rs t n in
+    ((λ e. low .0 (exact .0 e)), (λ w. exact .1 (low .1 w)))

@@ -1,4 +1,4 @@
-// What every floor shares: the answer of an operation that can only be done or refused, and the pick of the lowest refusal.
+// What every floor shares: the answer of an operation that can only be done or refused, and the pick of the first refusal that applies.
 // The laws about lists, places and computed tests that every proof cites stand in specs/.
 ghost use mathlib.Core.Path.{_≡_};
 ghost use Rattle.ground.specs.Pick.{pick};

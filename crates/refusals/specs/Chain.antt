@@ -1,4 +1,4 @@
--- The chain of calls that finds the lowest refusal, rule by rule: each call of `first_of` is the first rule of a list, over what the calls before it found of the rest.
+-- The chain of calls that finds the first refusal, rule by rule: each call of `first_of` is the first rule of a list, over what the calls before it found of the rest.
 -- Rests on Answers of the crate ground.
 use mathlib.Core.Path.{_≡_, refl, sym, ap, _∙_}
 use mathlib.Core.Bool.{Bool, true}
@@ -8,7 +8,7 @@ use lib.Dec.{eqb}
 use Rattle.ground.specs.Pick.{pick}
 use Rattle.ground.specs.Answers.{Rule, unless, first}
 
--- r is the lowest refusal of the rules
+-- r is the first refusal of the rules
 pub record Finds (rules : List Rule) (r : ℕ) : Type 0 where
   pub is : r ≡ first rules
 

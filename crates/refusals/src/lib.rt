@@ -1,4 +1,4 @@
-// The refusal that each operation gives for the lengths that it was lent: the lowest number whose condition holds, or 0.
+// The refusal that each operation gives for the lengths that it was lent: the first number in the operation's order whose condition holds, or 0.
 // Only the buffers that the operation takes are looked at. An output of another length is 20, whatever it is to hold.
 ghost use mathlib.Core.Path.{_≡_};
 ghost use Rattle.ground.specs.Answers.{first};

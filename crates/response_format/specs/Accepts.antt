@@ -12,8 +12,8 @@ use lib.ListN.{length, drop, getD, length-append, List·getD-append}
 use lib.Seq.{drop-append-seam}
 use borrow.Author.Tests.{eq-eqb, ne-eqb, eqb-true, lt-ltb, ltb-true, le-leb, leb-true}
 use Rattle.ground.specs.Pick.{pick, both, both-left, both-right, both-true}
-use Rattle.ground.specs.Answers.{Rule, unless, lowest}
-use Rattle.ground.specs.Lowest.{lowest-passes}
+use Rattle.ground.specs.Answers.{Rule, unless, first}
+use Rattle.ground.specs.First.{first-passes}
 use Rattle.response_format.specs.Fields.{digitOf, numeral, label, isNumber}
 use Rattle.response_format.specs.Rules.{begins, separated, allDigits, some, paired, valueRules, fieldRules, whole, lineRules, fault, after, refusal, refusalOf, begun, cut}
 use Rattle.response_format.specs.Format.{Digits, none, more, Value, number, bytes, Ends, Lines, end, empty, comment, field, Free, free-none, free-more, AllFree, all-none, all-more, join, Format}
@@ -43,36 +43,36 @@ unfolding some
 long-some [] h = absurd (omega arith)
 long-some (b ∷ v) h = refl
 
-value-sound : (k : ℕ) (v : List ℕ) → Value k v → lowest (valueRules k v) ≡ 0
-unfolding lowest
+value-sound : (k : ℕ) (v : List ℕ) → Value k v → first (valueRules k v) ≡ 0
+unfolding first
 value-sound k v (number i l d m) = rw (i, both-true (long-some v l) (digits-all 10 v d), le-leb _ _ m)
 value-sound k v (bytes i d p) = rw (i, digits-all 16 v d, paired-even v ∙ eq-eqb _ _ p)
 
-sound-value : (k : ℕ) (v : List ℕ) → lowest (valueRules k v) ≡ 0 → Value k v
+sound-value : (k : ℕ) (v : List ℕ) → first (valueRules k v) ≡ 0 → Value k v
 sound-value k v z = by (isNumber k) refl
   where
     by : (t : Bool) → isNumber k ≡ t → Value k v
     by true i =
-        let (a, p) = lowest-passes 32 (both (some v) (allDigits 10 v)) _ (λ w. omega arith) (rw i at z) in
-        let (c, q) = lowest-passes 34 (leb (numeral 0 v) 4294967295) _ (λ w. omega arith) p in
+        let (a, p) = first-passes 32 (both (some v) (allDigits 10 v)) _ (λ w. omega arith) (rw i at z) in
+        let (c, q) = first-passes 34 (leb (numeral 0 v) 4294967295) _ (λ w. omega arith) p in
         number i (some-long v (both-left (some v) (allDigits 10 v) a)) (all-digits 10 v (both-right (some v) (allDigits 10 v) a)) (leb-true _ _ c)
     by false i =
-        let (a, p) = lowest-passes 32 (allDigits 16 v) _ (λ w. omega arith) (rw i at z) in
-        let (c, q) = lowest-passes 31 (paired v) _ (λ w. omega arith) p in
+        let (a, p) = first-passes 32 (allDigits 16 v) _ (λ w. omega arith) (rw i at z) in
+        let (c, q) = first-passes 31 (paired v) _ (λ w. omega arith) p in
         bytes i (all-digits 16 v a) (eqb-true _ _ (sym (paired-even v) ∙ c))
 
 -- ---- a field's line
 
 -- a line of field k, the label and a value, has the value's rules
-field-rules : (k : ℕ) (v : List ℕ) → k < 8 → lowest (fieldRules k (label k ++ v)) ≡ lowest (valueRules k v)
-unfolding fieldRules lowest
+field-rules : (k : ℕ) (v : List ℕ) → k < 8 → first (fieldRules k (label k ++ v)) ≡ first (valueRules k v)
+unfolding fieldRules first
 field-rules k v due = rw (label-separated k due v, lt-ltb k 8 due, begins-all (label k) v, drop-append-seam (label k) v)
 
 label-getD : (k : ℕ) (v : List ℕ) → k < 8 → getD (label k ++ v) 0 35 ≡ getD (label k) 0 35
 label-getD k v due = List·getD-append (label k) v 35 0 (let long = label-long k due in omega arith)
 
 -- a line that begins with a label is no comment and not empty
-field-line : (k : ℕ) (l v : List ℕ) → k < 8 → l ≡ label k ++ v → (fault k l ≡ lowest (fieldRules k l)) × (after k l ≡ k + 1)
+field-line : (k : ℕ) (l v : List ℕ) → k < 8 → l ≡ label k ++ v → (fault k l ≡ first (fieldRules k l)) × (after k l ≡ k + 1)
 unfolding lineRules after
 field-line k [] v due e = let long = label-long k due in absurd (omega (arith, simp length-append at (ap length e)))
 field-line k (b ∷ l) v due e =
@@ -80,18 +80,18 @@ field-line k (b ∷ l) v due e =
     rw (ne-eqb b 35 n) (refl, refl)
 
 field-sound : (k : ℕ) (l v : List ℕ) → k < 8 → l ≡ label k ++ v → Value k v → fault k l ≡ 0
-field-sound k l v due e w = field-line k l v due e .0 ∙ ap (λ m. lowest (fieldRules k m)) e ∙ field-rules k v due ∙ value-sound k v w
+field-sound k l v due e w = field-line k l v due e .0 ∙ ap (λ m. first (fieldRules k m)) e ∙ field-rules k v due ∙ value-sound k v w
 
 record Due (k : ℕ) (l : List ℕ) : Type 0 where
   due : k < 8
   is : l ≡ label k ++ drop (length (label k)) l
   value : Value k (drop (length (label k)) l)
 
-sound-field : (k : ℕ) (l : List ℕ) → lowest (fieldRules k l) ≡ 0 → Due k l
+sound-field : (k : ℕ) (l : List ℕ) → first (fieldRules k l) ≡ 0 → Due k l
 unfolding fieldRules
 sound-field k l z =
-    let (a, p) = lowest-passes 30 (separated l) _ (λ w. omega arith) z in
-    let (c, q) = lowest-passes 33 (both (ltb k 8) (begins (label k) l)) _ (λ w. omega arith) p in
+    let (a, p) = first-passes 30 (separated l) _ (λ w. omega arith) z in
+    let (c, q) = first-passes 33 (both (ltb k 8) (begins (label k) l)) _ (λ w. omega arith) p in
     record {
       due = ltb-true k 8 (both-left (ltb k 8) (begins (label k) l) c);
       is = begins-split (label k) l (both-right (ltb k 8) (begins (label k) l) c);
@@ -122,11 +122,11 @@ unfolding refusal
 goes-on k l ls rest z = rw (eq-eqb (fault k l) 0 z)
 
 empty-sound : (k : ℕ) → Ends k → (fault k [] ≡ 0) × (after k [] ≡ 0)
-unfolding lineRules after lowest
+unfolding lineRules after first
 empty-sound k h = (rw (ends-whole k h), refl)
 
 comment-sound : (k : ℕ) (l : List ℕ) → (fault k (35 ∷ l) ≡ 0) × (after k (35 ∷ l) ≡ k)
-unfolding lineRules after lowest
+unfolding lineRules after first
 comment-sound k l = (refl, refl)
 
 end-sound : (k : ℕ) → Ends k → refusal k [] [] ≡ 0
@@ -152,7 +152,7 @@ end-whole k (b ∷ rest) z = absurd (omega arith)
 
 empty-ends : (k : ℕ) → fault k [] ≡ 0 → Ends k
 unfolding lineRules
-empty-ends k z = whole-ends k (lowest-passes 33 (whole k) [] (λ w. omega arith) z .0)
+empty-ends k z = whole-ends k (first-passes 33 (whole k) [] (λ w. omega arith) z .0)
 
 sound-lines : (k : ℕ) (ls : List (List ℕ)) (rest : List ℕ) → refusal k ls rest ≡ 0 → (rest ≡ []) × Lines k ls
 unfolding after lineRules

@@ -12,8 +12,8 @@ use lib.Seq.{drop-cons}
 use native.Mathlib.Numerals.{add-one}
 use borrow.Author.Tests.{ltb-true, eq-eqb, ne-eqb, eqb-true, lt-ltb, le-ltb}
 use Rattle.ground.specs.Pick.{pick, both, both-left, both-right}
-use Rattle.ground.specs.Answers.{Rule, unless, lowest}
-use Rattle.ground.specs.Lowest.{lowest-passes}
+use Rattle.ground.specs.Answers.{Rule, unless, first}
+use Rattle.ground.specs.First.{first-passes}
 use Rattle.ground.specs.Outcome.{Writes}
 use Rattle.ground.specs.Fill.{tab, tab-ext}
 use Rattle.ground.specs.declared.Answer.{Answer}
@@ -86,12 +86,12 @@ pub record Allowed (digits out : List ℕ) : Type 0 where
   pub all : allDigits 16 digits ≡ true
   pub fits : length digits ≡ length out * 2
 
-pub decode-allowed : (digits out : List ℕ) → lowest (decodeRules digits out) ≡ 0 → Allowed digits out
+pub decode-allowed : (digits out : List ℕ) → first (decodeRules digits out) ≡ 0 → Allowed digits out
 unfolding decodeRules
 decode-allowed digits out z =
-    let (a, p) = lowest-passes 32 (allDigits 16 digits) _ (λ w. omega arith) z in
-    let (b, q) = lowest-passes 31 (paired digits) _ (λ w. omega arith) p in
-    let (c, r) = lowest-passes 20 (eqb (length out) (length digits / 2)) _ (λ w. omega arith) q in
+    let (a, p) = first-passes 32 (allDigits 16 digits) _ (λ w. omega arith) z in
+    let (b, q) = first-passes 31 (paired digits) _ (λ w. omega arith) p in
+    let (c, r) = first-passes 20 (eqb (length out) (length digits / 2)) _ (λ w. omega arith) q in
     let even : length digits % 2 ≡ 0 = eqb-true _ _ (sym (paired-even digits) ∙ b) in
     let half : length out ≡ length digits / 2 = eqb-true _ _ c in
     record { all = a; fits = omega arith }

@@ -7,7 +7,7 @@ use Prim.Native.Nat.{ℕ, _-_, _/_}
 use lib.Dec.{eqb}
 use lib.ListN.{length}
 use Rattle.ground.specs.Pick.{pick, both}
-use Rattle.ground.specs.Answers.{Rule, unless, lowest}
+use Rattle.ground.specs.Answers.{Rule, unless, first}
 use Rattle.ground.specs.Outcome.{Writes}
 use Rattle.ground.specs.declared.Answer.{Answer}
 use Rattle.response_format.specs.Fields.{isNumber}
@@ -23,7 +23,7 @@ decodeRules digits out = unless 32 (allDigits 16 digits) ∷ unless 31 (paired d
 
 -- the bytes where nothing is refused, and else the output as it was
 abbrev pub Decodes : List ℕ → List ℕ → Answer → List ℕ → Type 0
-Decodes digits before r after = Writes (lowest (decodeRules digits before)) (decoded digits) before r after
+Decodes digits before r after = Writes (first (decodeRules digits before)) (decoded digits) before r after
 
 -- ---- field j of entry n of a file, both counted from 0
 

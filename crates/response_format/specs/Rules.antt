@@ -6,7 +6,7 @@ use Prim.Native.Nat.{ℕ, _+_}
 use lib.Dec.{eqb, ltb, leb}
 use lib.ListN.{length, drop}
 use Rattle.ground.specs.Pick.{pick, both}
-use Rattle.ground.specs.Answers.{Rule, unless, lowest}
+use Rattle.ground.specs.Answers.{Rule, unless, first}
 use Rattle.response_format.specs.Fields.{digitOf, numeral, label, isNumber}
 
 -- ---- tests of a line
@@ -69,7 +69,7 @@ lineRules k [] = unless 33 (whole k) ∷ []
 lineRules k (b ∷ l) = pick (eqb b 35) [] (fieldRules k (b ∷ l))
 
 abbrev pub fault : ℕ → List ℕ → ℕ
-fault k l = lowest (lineRules k l)
+fault k l = first (lineRules k l)
 
 -- how many fields of an entry are read after a sound line
 unfoldable pub after : ℕ → List ℕ → ℕ

@@ -2,7 +2,7 @@
 ghost use mathlib.Core.Path.{_≡_};
 ghost use Prim.Native.Nat.{_+_, _*_, _%_};
 ghost use lib.ListN.{length};
-ghost use Rattle.ground.specs.Answers.{lowest};
+ghost use Rattle.ground.specs.Answers.{first};
 ghost use Rattle.ground.specs.Fill.{tab};
 ghost use Rattle.response_format.specs.Fields.{digitOf};
 ghost use Rattle.response_format.specs.Rules.{allDigits};
@@ -51,7 +51,7 @@ fn all_digits(digits: &[u8]) -> bool
 }
 
 fn decode_refusal(digits: &[u8], out: &[u8]) -> u32
-    ensures { λ r. ⌜ r ≡ lowest (decodeRules (now (digits .entry)) (now (out .entry))) ⌝ }
+    ensures { λ r. ⌜ r ≡ first (decodeRules (now (digits .entry)) (now (out .entry))) ⌝ }
 {
     let all = all_digits(digits);
     let even = digits.len() % 2 == 0;

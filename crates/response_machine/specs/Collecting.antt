@@ -10,7 +10,7 @@ use lib.Dec.{eqb}
 use lib.ListN.{length}
 use borrow.Author.Tests.{eq-eqb, ne-eqb, eqb-true}
 use Rattle.ground.specs.Pick.{pick}
-use Rattle.ground.specs.Answers.{lowest, answerOf}
+use Rattle.ground.specs.Answers.{first, answerOf}
 use Rattle.ground.specs.AnswerLaws.{answer-done, number-of-answer}
 use Rattle.ground.specs.Answers.{numberOf}
 use Rattle.ground.specs.declared.Answer.{Answer}
@@ -23,8 +23,8 @@ use Rattle.response_format.specs.declared.Collected.the-variants as out
 use Rattle.response_machine.specs.Seeks.{valueBetween, Here}
 
 -- of sound digits nothing but the length is refused
-sound-decodes : (v before : List ℕ) → allDigits 16 v ≡ true → paired v ≡ true → lowest (decodeRules v before) ≡ pick (eqb (length before) (length v / 2)) 0 20
-unfolding decodeRules lowest
+sound-decodes : (v before : List ℕ) → allDigits 16 v ≡ true → paired v ≡ true → first (decodeRules v before) ≡ pick (eqb (length before) (length v / 2)) 0 20
+unfolding decodeRules first
 sound-decodes v before d p = rw (d, p)
 
 -- the answer that stands for decode's
@@ -49,7 +49,7 @@ module _ (v before : List ℕ) (d : allDigits 16 v ≡ true) (p : paired v ≡ t
   unfolding contents
   decodes-output {r} {after} w = by (eqb (length before) (length v / 2)) (sound-decodes v before d p)
     where
-      by : (t : Bool) → lowest (decodeRules v before) ≡ pick t 0 20 → after ≡ pick t (decoded v) before
+      by : (t : Bool) → first (decodeRules v before) ≡ pick t 0 20 → after ≡ pick t (decoded v) before
       by true z = w .done z
       by false z = w .refused (λ y. omega (arith, z, y))
 

@@ -12,8 +12,8 @@ use lib.Dec.{eqb, ltb}
 use lib.ListN.{length, drop, getD}
 use borrow.Author.Tests.{eq-eqb, ne-eqb, lt-ltb, ltb-true}
 use Rattle.ground.specs.Pick.{pick, both, both-left}
-use Rattle.ground.specs.Answers.{unless, lowest}
-use Rattle.ground.specs.Lowest.{lowest-passes}
+use Rattle.ground.specs.Answers.{unless, first}
+use Rattle.ground.specs.First.{first-passes}
 use Rattle.response_format.specs.Fields.{digitOf, numeral, label, isNumber}
 use Rattle.response_format.specs.Rules.{valueIn, fieldRules, separated, begins, whole, lineRules, fault, after, refusal, refusalOf, cut}
 use Rattle.response_format.specs.Tells.{keep, noted, noNumbers}
@@ -77,11 +77,11 @@ module _ (k : ℕ) (e : Numbers) where
 -- ---- a sound line
 
 -- a field's line is sound only where a field is due
-pub field-due : (k : ℕ) (m : List ℕ) → lowest (fieldRules k m) ≡ 0 → k < 8
+pub field-due : (k : ℕ) (m : List ℕ) → first (fieldRules k m) ≡ 0 → k < 8
 unfolding fieldRules
 field-due k m z =
-    let (a, p) = lowest-passes 30 (separated m) _ (λ w. omega arith) z in
-    let (c, q) = lowest-passes 33 (both (ltb k 8) (begins (label k) m)) _ (λ w. omega arith) p in
+    let (a, p) = first-passes 30 (separated m) _ (λ w. omega arith) z in
+    let (c, q) = first-passes 33 (both (ltb k 8) (begins (label k) m)) _ (λ w. omega arith) p in
     ltb-true k 8 (both-left (ltb k 8) (begins (label k) m) c)
 
 pub settled-field : (k : ℕ) (e : Numbers) (v : List ℕ) → k < 8 → settled k e (valueOf k v) .reader ≡ state (k + 1) (pick (isNumber k) (keep k (numeral 0 v) e) e) Empty

@@ -13,8 +13,8 @@ use lib.ListN.{length, getD, take, drop, length-append, length-drop}
 use lib.Seq.{take-append-seam, drop-append-add, drop-append-le, drop-cons}
 use borrow.Author.Tests.{eq-eqb, ne-eqb, eqb-true, ltb-true}
 use Rattle.ground.specs.Pick.{pick, both, both-left, both-right}
-use Rattle.ground.specs.Answers.{unless, lowest}
-use Rattle.ground.specs.Lowest.{lowest-passes}
+use Rattle.ground.specs.Answers.{unless, first}
+use Rattle.ground.specs.First.{first-passes}
 use Rattle.response_format.specs.Fields.{digitOf, numeral, label, isNumber}
 use Rattle.response_format.specs.Rules.{begins, separated, allDigits, paired, valueIn, bytesRules, valueRules, fieldRules, lineRules, fault, after, refusal, cut}
 use Rattle.response_format.specs.Tells.{noted, noNumbers}
@@ -177,13 +177,13 @@ record BytesLine (k : ℕ) (l : List ℕ) : Type 0 where
   digits : allDigits 16 (valueIn k l) ≡ true
   pairs : paired (valueIn k l) ≡ true
 
-bytes-rules : (k : ℕ) (l : List ℕ) → isNumber k ≡ false → lowest (fieldRules k l) ≡ 0 → BytesLine k l
+bytes-rules : (k : ℕ) (l : List ℕ) → isNumber k ≡ false → first (fieldRules k l) ≡ 0 → BytesLine k l
 unfolding fieldRules
 bytes-rules k l i z =
-    let (a, p) = lowest-passes 30 (separated l) _ (λ w. omega arith) z in
-    let (c, q) = lowest-passes 33 (both (ltb k 8) (begins (label k) l)) _ (λ w. omega arith) p in
-    let (d, s) = lowest-passes 32 (allDigits 16 (valueIn k l)) _ (λ w. omega arith) (rw i at q) in
-    let (h, t) = lowest-passes 31 (paired (valueIn k l)) _ (λ w. omega arith) s in
+    let (a, p) = first-passes 30 (separated l) _ (λ w. omega arith) z in
+    let (c, q) = first-passes 33 (both (ltb k 8) (begins (label k) l)) _ (λ w. omega arith) p in
+    let (d, s) = first-passes 32 (allDigits 16 (valueIn k l)) _ (λ w. omega arith) (rw i at q) in
+    let (h, t) = first-passes 31 (paired (valueIn k l)) _ (λ w. omega arith) s in
     record { split = begins-split (label k) l (both-right (ltb k 8) (begins (label k) l) c); digits = d; pairs = h }
 
 not-true : (t : Bool) → not t ≡ true → t ≡ false

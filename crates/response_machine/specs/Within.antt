@@ -14,7 +14,7 @@ use lib.Seq.{take-suc, take-all, drop-append-seam}
 use native.Mathlib.Nat.{not-suc-le-zero}
 use borrow.Author.Tests.{eq-eqb, ne-eqb, lt-ltb, le-ltb, le-leb, lt-leb, ltb-true, ltb-false}
 use Rattle.ground.specs.Pick.{pick, both}
-use Rattle.ground.specs.Answers.{Rule, unless, lowest}
+use Rattle.ground.specs.Answers.{Rule, unless, first}
 use Rattle.ground.specs.Tests.{every, below, below2, both-first, both-rest}
 use Rattle.response_format.specs.Fields.{digitOf, numeral, label, isNumber}
 use Rattle.response_format.specs.Rules.{begins, separated, allDigits, some, paired, valueIn, numberRules, bytesRules, valueRules, fieldRules, whole, lineRules}
@@ -33,7 +33,7 @@ within k s (b ∷ l) = within k (next k s b) l
 
 -- what rules come to: the first that is not met, or the good outcome
 unfoldable pub outcome : List Rule → Closed → Closed
-outcome rules good = pick (eqb (lowest rules) 0) good (Fault (lowest rules))
+outcome rules good = pick (eqb (first rules) 0) good (Fault (first rules))
 
 -- ---- states that do not change
 
@@ -68,7 +68,7 @@ broken-closed k l = ap (closed k) (broken-stays k l)
 -- ---- hexadecimal digits
 
 pairs-close : (k : ℕ) (v : List ℕ) → closed k (within k Pairs v) ≡ outcome (bytesRules v) Bytes
-unfolding within next closed outcome lowest allDigits paired
+unfolding within next closed outcome first allDigits paired
 pairs-close k [] = refl
 pairs-close k (a ∷ []) = by (ltb (digitOf a) 16)
   where
@@ -102,13 +102,13 @@ agrees-next n m d (inl h) = rw (le-leb n 4294967295 (omega arith)) (agrees-same 
 agrees-next n m d (inr h) = rw (lt-leb n 4294967295 (h .1)) (inr (omega arith, h .1))
 
 number-end : (k n m : ℕ) → Agrees n m → closed k (Number n) ≡ outcome (unless 32 true ∷ unless 34 (leb m 4294967295) ∷ []) (Value m)
-unfolding Agrees closed outcome lowest
+unfolding Agrees closed outcome first
 number-end k n m (inl h) = rw (h .1, le-leb m 4294967295 (h .0))
 number-end k n m (inr h) = rw (lt-leb m 4294967295 (h .0), lt-leb n 4294967295 (h .1))
 
 number-close : (k n m : ℕ) (v : List ℕ) → Agrees n m
     → closed k (within k (Number n) v) ≡ outcome (unless 32 (allDigits 10 v) ∷ unless 34 (leb (numeral m v) 4294967295) ∷ []) (Value (numeral m v))
-unfolding within next outcome lowest allDigits numeral
+unfolding within next outcome first allDigits numeral
 number-close k n m [] g = number-end k n m g
 number-close k n m (b ∷ v) g =
     by (ltb (digitOf b) 10) (number-close k (grown n (digitOf b)) (m * 10 + digitOf b) v (agrees-next n m (digitOf b) g))
@@ -122,7 +122,7 @@ number-close k n m (b ∷ v) g =
     by false h = broken-closed k v
 
 no-digit-close : (k : ℕ) (v : List ℕ) → closed k (within k NoDigit v) ≡ outcome (numberRules v) (Value (numeral 0 v))
-unfolding within next closed outcome lowest allDigits numeral some
+unfolding within next closed outcome first allDigits numeral some
 no-digit-close k [] = refl
 no-digit-close k (b ∷ v) = by (ltb (digitOf b) 10)
   where
@@ -150,12 +150,12 @@ unfoldable pub fieldOutcome : ℕ → List ℕ → Closed
 fieldOutcome k m = outcome (fieldRules k m) (valueOf k (valueIn k m))
 
 no-separator : (k : ℕ) (m : List ℕ) → separated m ≡ false → fieldOutcome k m ≡ Fault 30
-unfolding fieldOutcome outcome fieldRules lowest
+unfolding fieldOutcome outcome fieldRules first
 no-separator k m s = rw s
 
 -- a line that does not begin with the label that is due
 other-label : (k : ℕ) (m : List ℕ) → both (ltb k 8) (begins (label k) m) ≡ false → fieldOutcome k m ≡ Fault (pick (separated m) 33 30)
-unfolding fieldOutcome outcome fieldRules lowest
+unfolding fieldOutcome outcome fieldRules first
 other-label k m n = by (separated m) refl
   where
     by : (s : Bool) → separated m ≡ s → fieldOutcome k m ≡ Fault (pick (separated m) 33 30)
@@ -164,7 +164,7 @@ other-label k m n = by (separated m) refl
 
 right-label : (k : ℕ) (m : List ℕ) → separated m ≡ true → both (ltb k 8) (begins (label k) m) ≡ true
     → fieldOutcome k m ≡ outcome (valueRules k (valueIn k m)) (valueOf k (valueIn k m))
-unfolding fieldOutcome outcome fieldRules lowest
+unfolding fieldOutcome outcome fieldRules first
 right-label k m s n = rw (s, n)
 
 pub begins-miss : (p : List ℕ) (i b : ℕ) (l : List ℕ) → i < length p → (b ≡ getD p i 0 → ⊥) → begins p (take i p ++ (b ∷ l)) ≡ false
@@ -267,7 +267,7 @@ means k l = outcome (lineRules k l) (sound k l)
 
 -- the machine's line is what the rules say
 pub line-means : (k : ℕ) (l : List ℕ) → closed k (within k Empty l) ≡ means k l
-unfolding within next closed means outcome lineRules lowest sound fieldOutcome
+unfolding within next closed means outcome lineRules first sound fieldOutcome
 line-means k [] = by (whole k)
   where
     by : (t : Bool) → pick t Gap (Fault 33) ≡ outcome (unless 33 t ∷ []) Gap

@@ -10,7 +10,7 @@ use lib.Dec.{eqb}
 use lib.ListN.{length, getD, take, drop, set}
 use lib.Seq.{drop-drop}
 use Rattle.ground.specs.Pick.{pick}
-use Rattle.ground.specs.Answers.{lowest}
+use Rattle.ground.specs.Answers.{first}
 use Rattle.ground.specs.Paste.{Pasted, length-pasted, pasted-none, pasted-then, pasted-all, pasted-one}
 use Rattle.blocks.specs.declared.Head.{Head}
 use Rattle.blocks.specs.Block.{headOf, partOf, blockAt, IsBlock, checked, formed}
@@ -38,7 +38,7 @@ pub record Judged (s list : List ℕ) : Type 0 where
   pub holds : list ≡ faultsOf s
 
 pub fault-lt : (place : ℕ) (before : Head) (s : List ℕ) → faultOf place before s < 256
-unfolding faultOf lowest
+unfolding faultOf first
 fault-lt place before s = by (checked place s) (formed s) (inTurn before (headOf s))
   where
     by : (a b c : Bool) → pick a (pick b (pick c 0 43) 42) 41 < 256

@@ -9,8 +9,8 @@ use native.Mathlib.Omega.{arith}
 use lib.Dec.{eqb}
 use lib.ListN.{length}
 use borrow.Author.Tests.{eqb-true}
-use Rattle.ground.specs.Answers.{Rule, unless, lowest}
-use Rattle.ground.specs.Lowest.{lowest-passes}
+use Rattle.ground.specs.Answers.{Rule, unless, first}
+use Rattle.ground.specs.First.{first-passes}
 use Rattle.ground.specs.Outcome.{unique-equation}
 use Rattle.ground.specs.Paste.{Pasted}
 use Rattle.books.specs.Book.{whole}
@@ -29,18 +29,18 @@ numberOf (Refused n) = n
 
 pub record Salvages (s out list : List ℕ) (r : Salvaged) (out′ list′ : List ℕ) : Type 0 where
   -- a refusal is the first that applies, and nothing is written
-  pub refused : (lowest (salvageRules s out list) ≡ 0 → ⊥) → (r ≡ Refused (lowest (salvageRules s out list))) × ((out′ ≡ out) × (list′ ≡ list))
+  pub refused : (first (salvageRules s out list) ≡ 0 → ⊥) → (r ≡ Refused (first (salvageRules s out list))) × ((out′ ≡ out) × (list′ ≡ list))
   -- else the count of kept blocks is answered,
-  pub count : lowest (salvageRules s out list) ≡ 0 → r ≡ Kept (length (keptParts s))
+  pub count : first (salvageRules s out list) ≡ 0 → r ≡ Kept (length (keptParts s))
   -- the new book stands at the start of the output, and what follows it stays as it was,
-  pub written : lowest (salvageRules s out list) ≡ 0 → Pasted out 0 (salvaged s) out′
+  pub written : first (salvageRules s out list) ≡ 0 → Pasted out 0 (salvaged s) out′
   -- and the list tells what became of each old block
-  pub listed : lowest (salvageRules s out list) ≡ 0 → list′ ≡ numbersOf s
+  pub listed : first (salvageRules s out list) ≡ 0 → list′ ≡ numbersOf s
 
 pub unique-salvage : (s out list : List ℕ) {r r′ : Salvaged} {o o′ l l′ : List ℕ} → Salvages s out list r o l → Salvages s out list r′ o′ l′
     → (r ≡ r′) × ((o ≡ o′) × (l ≡ l′))
 unique-salvage s out list a b =
-    elim (ℕ-discrete (lowest (salvageRules s out list)) 0) [
+    elim (ℕ-discrete (first (salvageRules s out list)) 0) [
       | yes z ↦ (unique-equation (a .count z) (b .count z), (unique-equation (a .written z .is) (b .written z .is), unique-equation (a .listed z) (b .listed z)))
       | no z ↦
           let p = a .refused z in
@@ -49,16 +49,16 @@ unique-salvage s out list a b =
     ]
 
 -- no refusal: whole blocks, an output and a list that fit
-pub salvage-fits : (s out list : List ℕ) → lowest (salvageRules s out list) ≡ 0 → (whole s ≡ true) × ((length out ≡ length s) × (length list ≡ length s / 512))
+pub salvage-fits : (s out list : List ℕ) → first (salvageRules s out list) ≡ 0 → (whole s ≡ true) × ((length out ≡ length s) × (length list ≡ length s / 512))
 salvage-fits s out list e =
-    let a = lowest-passes 40 (whole s) (unless 20 (eqb (length out) (length s)) ∷ unless 20 (eqb (length list) (length s / 512)) ∷ []) (omega arith) e in
-    let b = lowest-passes 20 (eqb (length out) (length s)) (unless 20 (eqb (length list) (length s / 512)) ∷ []) (omega arith) (a .1) in
-    let c = lowest-passes 20 (eqb (length list) (length s / 512)) [] (omega arith) (b .1) in
+    let a = first-passes 40 (whole s) (unless 20 (eqb (length out) (length s)) ∷ unless 20 (eqb (length list) (length s / 512)) ∷ []) (omega arith) e in
+    let b = first-passes 20 (eqb (length out) (length s)) (unless 20 (eqb (length list) (length s / 512)) ∷ []) (omega arith) (a .1) in
+    let c = first-passes 20 (eqb (length list) (length s / 512)) [] (omega arith) (b .1) in
     (a .0, (eqb-true _ _ (b .0), eqb-true _ _ (c .0)))
 
 -- ---- from what the code's calls give
 
-pub salvage-refused : (s out list : List ℕ) {n : ℕ} → n ≡ lowest (salvageRules s out list) → (n ≡ 0 → ⊥) → Salvages s out list (Refused n) out list
+pub salvage-refused : (s out list : List ℕ) {n : ℕ} → n ≡ first (salvageRules s out list) → (n ≡ 0 → ⊥) → Salvages s out list (Refused n) out list
 salvage-refused s out list e z = record {
   refused = λ _. (ap Refused e, (refl, refl));
   count = λ p. absurd (z (e ∙ p));
@@ -66,6 +66,6 @@ salvage-refused s out list e z = record {
   listed = λ p. absurd (z (e ∙ p));
 }
 
-pub salvage-done : (s out list : List ℕ) {n k : ℕ} {out′ list′ : List ℕ} → n ≡ lowest (salvageRules s out list) → n ≡ 0 → k ≡ length (keptParts s) → Pasted out 0 (salvaged s) out′
+pub salvage-done : (s out list : List ℕ) {n k : ℕ} {out′ list′ : List ℕ} → n ≡ first (salvageRules s out list) → n ≡ 0 → k ≡ length (keptParts s) → Pasted out 0 (salvaged s) out′
     → list′ ≡ numbersOf s → Salvages s out list (Kept k) out′ list′
 salvage-done s out list e z c p l = record { refused = λ q. absurd (q (sym e ∙ z)); count = λ _. ap Kept c; written = λ _. p; listed = λ _. l }

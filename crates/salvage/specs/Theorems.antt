@@ -8,7 +8,7 @@ use native.Mathlib.Decide.{ℕ-discrete}
 use native.Mathlib.Omega.{arith}
 use lib.ListN.{length, getD, take, drop, length-drop, length-take}
 use lib.Seq.{take-at, drop-append-le, take-append-le}
-use Rattle.ground.specs.Answers.{lowest}
+use Rattle.ground.specs.Answers.{first}
 use Rattle.ground.specs.Outcome.{unique-equation}
 use Rattle.ground.specs.Paste.{Pasted}
 use Rattle.blocks.specs.Block.{payloadOf, partOf, blockAt, blockOf}
@@ -22,9 +22,9 @@ use Rattle.salvage.specs.Salvages.{salvageRules, Salvages, salvage-fits}
 
 module _ {s out list : List ℕ} {n : ℕ} {out′ list′ : List ℕ} (w : Salvages s out list (Kept n) out′ list′) where
   -- a count is answered only where nothing is refused
-  not-refused : lowest (salvageRules s out list) ≡ 0
+  not-refused : first (salvageRules s out list) ≡ 0
   not-refused =
-      elim (ℕ-discrete (lowest (salvageRules s out list)) 0) [
+      elim (ℕ-discrete (first (salvageRules s out list)) 0) [
         | yes z ↦ z
         | no z ↦ absurd (let r = w .refused z .0 in let bad : _≡_ {A = ℕ} 0 1 = cc in omega arith)
       ]

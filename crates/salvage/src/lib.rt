@@ -6,7 +6,7 @@ mod listing;
 mod marking;
 
 ghost use mathlib.Core.Path.{_≡_};
-ghost use Rattle.ground.specs.Answers.{lowest};
+ghost use Rattle.ground.specs.Answers.{first};
 ghost use Rattle.salvage.specs.Salvages.{salvageRules, numberOf, Salvages};
 use ground::first_of;
 
@@ -28,7 +28,7 @@ pub fn number(answer: Salvaged) -> u32
 
 // 0, or 40, or 20 for the length of the output or of the list.
 fn salvage_refusal(book: &[u8], output: &[u8], list: &[u8]) -> u32
-    ensures { λ r. ⌜ r ≡ lowest (salvageRules (now (book .entry)) (now (output .entry)) (now (list .entry))) ⌝ }
+    ensures { λ r. ⌜ r ≡ first (salvageRules (now (book .entry)) (now (output .entry)) (now (list .entry))) ⌝ }
 {
     let whole = book_reader::is_whole(book);
     let fits = list.len() == book.len() / 512;

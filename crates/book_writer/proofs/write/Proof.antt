@@ -10,16 +10,10 @@ use borrow.Author.Needs.{needs}
 use Rattle.book_writer.proofs.write.Statement.{statement}
 use Rattle.book_writer.proofs.write.Tie as tie
 
-write-refusal-requires : tie.Need-write-refusal-requires
-write-refusal-requires c κs = search needs
-
 write-all-requires : tie.Need-write-all-requires
 write-all-requires c κs =
     let at = c .before .before in
     not-refused _ _ _ _ _ (sym (at .write-refusal .ensures) ∙ c .before .if1 .taken)
-
-answer-of-requires : tie.Need-answer-of-requires
-answer-of-requires c κs = search needs
 
 same-length : tie.Need-same-length
 same-length c = ⊎-elim (λ w. ap length (w .5) ∙ w .2 .kept .0) (λ w. ap length (w .1)) (c .before .if1 .came)
@@ -33,4 +27,4 @@ returns c =
 pub write-spec : {M : Type 1} → statement M
 write-spec =
     tie.close
-    (tie.spec write-refusal-requires write-all-requires answer-of-requires same-length returns)
+    (tie.spec (λ c κs. search needs) write-all-requires (λ c κs. search needs) same-length returns)

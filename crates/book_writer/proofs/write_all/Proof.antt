@@ -16,29 +16,8 @@ abbrev μ-loop : tie.MeasureT-loop
 loop-holds : tie.Need-loop-holds Inv-loop μ-loop
 loop-holds c = writing-none _ _ _ _ _
 
-mul-end : tie.Need-mul-end Inv-loop μ-loop
-mul-end c = search needs
-
-shared-slice-read-end : tie.Need-shared-slice-read-end Inv-loop μ-loop
-shared-slice-read-end c = search needs
-
 add-end : tie.Need-add-end Inv-loop μ-loop
 add-end c = omega (arith, room (c .before .before .before .before .before .before .before .before .pre) (c .before .before .loop .inv) (c .before .loop-test .taken) .byte)
-
-mul-write-field : tie.Need-mul-write-field Inv-loop μ-loop
-mul-write-field c = search needs
-
-shared-slice-read-write-field : tie.Need-shared-slice-read-write-field Inv-loop μ-loop
-shared-slice-read-write-field c = search needs
-
-shared-slice-read-write-field-2 : tie.Need-shared-slice-read-write-field-2 Inv-loop μ-loop
-shared-slice-read-write-field-2 c = search needs
-
-sub-write-field : tie.Need-sub-write-field Inv-loop μ-loop
-sub-write-field c = search needs
-
-part-write-field-start : tie.Need-part-write-field-start Inv-loop μ-loop
-part-write-field-start c = search needs
 
 part-write-field-end : tie.Need-part-write-field-end Inv-loop μ-loop
 part-write-field-end c =
@@ -51,12 +30,6 @@ write-field-requires c κs =
     let test = c .before .before .before .before .before in
     let at = test .before in
     room-asks (at .before .before .before .before .before .before .pre) (at .loop .inv) (test .loop-test .taken)
-
-add-i : tie.Need-add-i Inv-loop μ-loop
-add-i c = search needs
-
-loop-less : tie.Need-loop-less Inv-loop μ-loop
-loop-less c = search needs
 
 loop-again : tie.Need-loop-again Inv-loop μ-loop
 loop-again c =
@@ -77,18 +50,18 @@ write-all-spec =
     Inv-loop
     μ-loop
     loop-holds
-    mul-end
-    shared-slice-read-end
+    (λ c. search needs)
+    (λ c. search needs)
     add-end
-    mul-write-field
-    shared-slice-read-write-field
-    shared-slice-read-write-field-2
-    sub-write-field
-    part-write-field-start
+    (λ c. search needs)
+    (λ c. search needs)
+    (λ c. search needs)
+    (λ c. search needs)
+    (λ c. search needs)
     part-write-field-end
     write-field-requires
-    add-i
-    loop-less
+    (λ c. search needs)
+    (λ c. search needs)
     loop-again
     same-length
     returns)

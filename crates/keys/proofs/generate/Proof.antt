@@ -1,4 +1,4 @@
--- `keys::generate` meets its contract: by the number of the lowest rule, either the whole key is written or nothing.
+-- `keys::generate` meets its contract: by the number of the first rule that is not met, either the whole key is written or nothing.
 -- Rests on ground's `writes-by`, refusals' `keygen-fits` and on what `write_key` ensures.
 use mathlib.Core.Path.{sym, ap, _∙_}
 use mathlib.Core.Logic.{⊎-elim, ⊎-map}

@@ -1,4 +1,4 @@
--- `packing::pack` meets its contract: by the number of the lowest rule, either all is written or nothing.
+-- `packing::pack` meets its contract: by the number of the first rule that is not met, either all is written or nothing.
 -- Rests on `writes-by` and on what `pack_refusal` and `pack_all` ensure.
 use mathlib.Core.Path.{sym, ap, _∙_}
 use mathlib.Core.Logic.{⊎-elim, ⊎-map}

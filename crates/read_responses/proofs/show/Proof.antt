@@ -17,15 +17,6 @@ abbrev μ-loop : tie.MeasureT-loop
 loop-holds : tie.Need-loop-holds Inv-loop μ-loop
 loop-holds c = refl
 
-feed-requires : tie.Need-feed-requires Inv-loop μ-loop
-feed-requires c κs = search needs
-
-event-text-requires : tie.Need-event-text-requires Inv-loop μ-loop
-event-text-requires c κs = search needs
-
-write-text-requires : tie.Need-write-text-requires Inv-loop μ-loop
-write-text-requires c κs = search needs
-
 loop-less : tie.Need-loop-less Inv-loop μ-loop
 loop-less c = let s = c .before .before .before in let l = s .before .before in let q = l .before .before .args .piece .now in omega (arith, part-moves (l .loop .here) (l .loop .at) q (s .feed .ensures) (s .before .loop-test .taken), s .before .loop-test .taken)
 
@@ -38,4 +29,4 @@ returns c = let l = c .before in sym (fed-all (l .loop .here) (l .loop .at) (l .
 pub show-spec : {M : Type 1} → statement M
 show-spec =
     tie.close
-    (tie.spec Inv-loop μ-loop loop-holds feed-requires event-text-requires write-text-requires loop-less loop-again returns)
+    (tie.spec Inv-loop μ-loop loop-holds (λ c κs. search needs) (λ c κs. search needs) (λ c κs. search needs) loop-less loop-again returns)

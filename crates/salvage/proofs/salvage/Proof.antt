@@ -6,15 +6,6 @@ use borrow.Author.Needs.{needs}
 use Rattle.salvage.proofs.salvage.Statement.{statement}
 use Rattle.salvage.proofs.salvage.Tie as tie
 
-salvage-refusal-requires : tie.Need-salvage-refusal-requires
-salvage-refusal-requires c κs = search needs
-
-same-length : tie.Need-same-length
-same-length c = search needs
-
-same-length-2 : tie.Need-same-length-2
-same-length-2 c = search needs
-
 returns : tie.Need-returns
 returns c =
     let begin = c .before .before .before .before .before .before .before in
@@ -43,12 +34,6 @@ keep-requires c κs =
     let fits = salvage-fits (begin .args .book .now) (begin .args .output .now) (begin .args .list .now) (sym (els .before .salvage-refusal .ensures) ∙ els .if1 .left) in
     record { is = fits .0; holds = settled .settle .ensures; long = fits .1 .0 }
 
-same-length-3 : tie.Need-same-length-3
-same-length-3 c = search needs
-
-same-length-4 : tie.Need-same-length-4
-same-length-4 c = search needs
-
 returns-2 : tie.Need-returns-2
 returns-2 c =
     let kept = c .before .before in
@@ -62,13 +47,13 @@ pub salvage-spec : {M : Type 1} → statement M
 salvage-spec =
     tie.close
     (tie.spec
-    salvage-refusal-requires
-    same-length
-    same-length-2
+    (λ c κs. search needs)
+    (λ c. search needs)
+    (λ c. search needs)
     returns
     judge-requires
     settle-requires
     keep-requires
-    same-length-3
-    same-length-4
+    (λ c. search needs)
+    (λ c. search needs)
     returns-2)

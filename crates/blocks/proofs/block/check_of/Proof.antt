@@ -18,18 +18,6 @@ loop-holds : tie.Need-loop-holds Inv-loop μ-loop
 unfolding sumWords
 loop-holds c = (omega arith, omega arith)
 
-word-at-requires : tie.Need-word-at-requires Inv-loop μ-loop
-word-at-requires c κs = search needs
-
-wrapping-add-u32-requires : tie.Need-wrapping-add-u32-requires Inv-loop μ-loop
-wrapping-add-u32-requires c κs = search needs
-
-add-k : tie.Need-add-k Inv-loop μ-loop
-add-k c = search needs
-
-loop-less : tie.Need-loop-less Inv-loop μ-loop
-loop-less c = search needs
-
 loop-again : tie.Need-loop-again Inv-loop μ-loop
 loop-again c = (omega arith, check-more _ (c .before .before .before .loop .k) _ (c .before .before .before .loop .inv .1) (c .before .word-at .ensures) (c .wrapping-add-u32 .ensures))
 
@@ -46,9 +34,9 @@ check-of-spec =
     Inv-loop
     μ-loop
     loop-holds
-    word-at-requires
-    wrapping-add-u32-requires
-    add-k
-    loop-less
+    (λ c κs. search needs)
+    (λ c κs. search needs)
+    (λ c. search needs)
+    (λ c. search needs)
     loop-again
     returns)

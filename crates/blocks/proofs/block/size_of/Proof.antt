@@ -5,15 +5,9 @@ use borrow.Author.Needs.{needs}
 use Rattle.blocks.proofs.block.size_of.Statement.{statement}
 use Rattle.blocks.proofs.block.size_of.Tie as tie
 
-pair-at-requires : tie.Need-pair-at-requires
-pair-at-requires c κs = search needs
-
-cast-result : tie.Need-cast-result
-cast-result c = search needs
-
 returns : tie.Need-returns
 unfolding sizeOf
 returns c = search needs
 
 pub size-of-spec : {M : Type 1} → statement M
-size-of-spec = tie.close (tie.spec pair-at-requires cast-result returns)
+size-of-spec = tie.close (tie.spec (λ c κs. search needs) (λ c. search needs) returns)

@@ -17,20 +17,8 @@ abbrev μ-loop : tie.MeasureT-loop
 loop-holds : tie.Need-loop-holds Inv-loop μ-loop
 loop-holds c = (omega arith, segment-none)
 
-byte-at-requires : tie.Need-byte-at-requires Inv-loop μ-loop
-byte-at-requires c κs = search needs
-
-add-block : tie.Need-add-block Inv-loop μ-loop
-add-block c = search needs
-
 slice-write-block : tie.Need-slice-write-block Inv-loop μ-loop
 slice-write-block c = omega (arith, c .before .before .loop .inv .1 .long)
-
-add-k : tie.Need-add-k Inv-loop μ-loop
-add-k c = search needs
-
-loop-less : tie.Need-loop-less Inv-loop μ-loop
-loop-less c = search needs
 
 loop-again : tie.Need-loop-again Inv-loop μ-loop
 loop-again c = (omega arith, segment-next (c .before .before .loop .inv .1) (omega arith) (c .byte-at .result) (c .byte-at .ensures))
@@ -48,11 +36,11 @@ put-spec =
     Inv-loop
     μ-loop
     loop-holds
-    byte-at-requires
-    add-block
+    (λ c κs. search needs)
+    (λ c. search needs)
     slice-write-block
-    add-k
-    loop-less
+    (λ c. search needs)
+    (λ c. search needs)
     loop-again
     same-length
     returns)

@@ -6,12 +6,6 @@ use borrow.Author.Needs.{needs}
 use Rattle.book_reader.proofs.cursor.copy_field.Statement.{statement}
 use Rattle.book_reader.proofs.cursor.copy_field.Tie as tie
 
-field-size-requires : tie.Need-field-size-requires
-field-size-requires c κs = search needs
-
-answer-of-requires : tie.Need-answer-of-requires
-answer-of-requires c κs = search needs
-
 returns : tie.Need-returns
 returns c =
     let at = c .before .before .before .before .before .args in
@@ -19,12 +13,6 @@ returns c =
 
 copy-parts-requires : tie.Need-copy-parts-requires
 copy-parts-requires c κs = c .before .if1 .left ∙ c .before .before .field-size .ensures
-
-answer-of-requires-2 : tie.Need-answer-of-requires-2
-answer-of-requires-2 c κs = search needs
-
-same-length : tie.Need-same-length
-same-length c = search needs
 
 returns-2 : tie.Need-returns-2
 returns-2 c =
@@ -36,10 +24,10 @@ pub copy-field-spec : {M : Type 1} → statement M
 copy-field-spec =
     tie.close
     (tie.spec
-    field-size-requires
-    answer-of-requires
+    (λ c κs. search needs)
+    (λ c κs. search needs)
     returns
     copy-parts-requires
-    answer-of-requires-2
-    same-length
+    (λ c κs. search needs)
+    (λ c. search needs)
     returns-2)

@@ -18,29 +18,17 @@ abbrev μ-loop : tie.MeasureT-loop
 returns : tie.Need-returns Inv-loop μ-loop
 returns c = let at = c .before .before .before in bytes-none (at .args .book .now) (at .args .b) (c .if1 .taken) (at .pre)
 
-part-requires : tie.Need-part-requires Inv-loop μ-loop
-part-requires c κs = search needs
-
 put-part-requires : tie.Need-put-part-requires Inv-loop μ-loop
 put-part-requires c κs =
     let els = c .before .before in
     let at = els .before .before .before in
     copy-room (at .args .output .now) (at .args .book .now) (at .args .b) (els .if1 .left) (at .pre) (c .part .ensures .0)
 
-add-i : tie.Need-add-i Inv-loop μ-loop
-add-i c = search needs
-
 loop-holds : tie.Need-loop-holds Inv-loop μ-loop
 loop-holds c =
     let at = c .before .before in
     let els = at .before .before .before in
     copy-none _ _ (els .if1 .left) (els .before .before .before .pre) (at .before .part .ensures .0) (at .put-part .ensures .0) (at .put-part .ensures .1)
-
-goes-on-requires : tie.Need-goes-on-requires Inv-loop μ-loop
-goes-on-requires c κs = search needs
-
-part-requires-2 : tie.Need-part-requires-2 Inv-loop μ-loop
-part-requires-2 c κs = search needs
 
 put-part-requires-2 : tie.Need-put-part-requires-2 Inv-loop μ-loop
 put-part-requires-2 c κs =
@@ -65,9 +53,6 @@ loop-again c =
     let at = part .before .before .before in
     copy-next (at .before .loop .inv) (sym (part .before .before .if2 .taken) ∙ at .goes-on .ensures) (part .part2 .ensures .0) (c .before .before .put-part2 .ensures)
 
-same-length : tie.Need-same-length Inv-loop μ-loop
-same-length c = search needs
-
 returns-2 : tie.Need-returns-2 Inv-loop μ-loop
 returns-2 c =
     let at = c .before .before .before .before .before in
@@ -81,15 +66,15 @@ copy-parts-spec =
     Inv-loop
     μ-loop
     returns
-    part-requires
+    (λ c κs. search needs)
     put-part-requires
-    add-i
+    (λ c. search needs)
     loop-holds
-    goes-on-requires
-    part-requires-2
+    (λ c κs. search needs)
+    (λ c κs. search needs)
     put-part-requires-2
     add-i-2
     loop-less
     loop-again
-    same-length
+    (λ c. search needs)
     returns-2)

@@ -17,26 +17,8 @@ abbrev μ-loop : tie.MeasureT-loop
 returns : tie.Need-returns Inv-loop μ-loop
 returns c = end-at (c .before .before .args .book .now) (c .before .before .args .b) (c .if1 .taken)
 
-block-at-requires : tie.Need-block-at-requires Inv-loop μ-loop
-block-at-requires c κs = search needs
-
-head-of-requires : tie.Need-head-of-requires Inv-loop μ-loop
-head-of-requires c κs = search needs
-
-part-requires : tie.Need-part-requires Inv-loop μ-loop
-part-requires c κs = search needs
-
-add-i : tie.Need-add-i Inv-loop μ-loop
-add-i c = search needs
-
 loop-holds : tie.Need-loop-holds Inv-loop μ-loop
 loop-holds c = run-none _ _ _ (c .before .before .before .if1 .left) (ap length (c .part .ensures .0))
-
-goes-on-requires : tie.Need-goes-on-requires Inv-loop μ-loop
-goes-on-requires c κs = search needs
-
-part-requires-2 : tie.Need-part-requires-2 Inv-loop μ-loop
-part-requires-2 c κs = search needs
 
 add-size : tie.Need-add-size Inv-loop μ-loop
 add-size c = omega (arith, run-small (c .before .before .before .loop .inv) (sym (c .before .if2 .taken) ∙ c .before .before .goes-on .ensures) (ap length (c .part2 .ensures .0)) .0)
@@ -64,13 +46,13 @@ field-at-spec =
     Inv-loop
     μ-loop
     returns
-    block-at-requires
-    head-of-requires
-    part-requires
-    add-i
+    (λ c κs. search needs)
+    (λ c κs. search needs)
+    (λ c κs. search needs)
+    (λ c. search needs)
     loop-holds
-    goes-on-requires
-    part-requires-2
+    (λ c κs. search needs)
+    (λ c κs. search needs)
     add-size
     add-i-2
     loop-less

@@ -5,15 +5,6 @@ use borrow.Author.Needs.{needs}
 use Rattle.book_reader.proofs.cursor.field_size.Statement.{statement}
 use Rattle.book_reader.proofs.cursor.field_size.Tie as tie
 
-field-at-requires : tie.Need-field-at-requires
-field-at-requires c κs = search needs
-
-enum-known-next : tie.Need-enum-known-next
-enum-known-next c = search needs
-
-enum-told : tie.Need-enum-told
-enum-told c = search needs
-
 returns : tie.Need-returns
 returns c = size-at _ _ (c .before .before .before .field-at .ensures) (c .before .next .given .1)
 
@@ -22,4 +13,4 @@ returns-2 c = size-none _ _ (c .before .before .field-at .ensures) (c .enum-told
 
 pub field-size-spec : {M : Type 1} → statement M
 field-size-spec =
-    tie.close (tie.spec field-at-requires enum-known-next enum-told returns returns-2)
+    tie.close (tie.spec (λ c κs. search needs) (λ c. search needs) (λ c. search needs) returns returns-2)

@@ -8,14 +8,8 @@ use Rattle.book_reader.proofs.cursor.goes_on.Tie as tie
 returns : tie.Need-returns
 returns c = stops-at-end (c .before .before .args .book .now) (c .before .before .args .b) (c .if1 .taken)
 
-block-at-requires : tie.Need-block-at-requires
-block-at-requires c κs = search needs
-
-head-of-requires : tie.Need-head-of-requires
-head-of-requires c κs = search needs
-
 returns-2 : tie.Need-returns-2
 returns-2 c = goes-on-at (c .before .before .before .if1 .left) (c .before .before .block-at .ensures) (c .before .head-of .ensures)
 
 pub goes-on-spec : {M : Type 1} → statement M
-goes-on-spec = tie.close (tie.spec returns block-at-requires head-of-requires returns-2)
+goes-on-spec = tie.close (tie.spec returns (λ c κs. search needs) (λ c κs. search needs) returns-2)

@@ -6,17 +6,8 @@ use borrow.Author.Needs.{needs}
 use Rattle.book_reader.proofs.cursor.put_part.Statement.{statement}
 use Rattle.book_reader.proofs.cursor.put_part.Tie as tie
 
-put-requires : tie.Need-put-requires
-put-requires c κs = search needs
-
-add-result : tie.Need-add-result
-add-result c = search needs
-
-same-length : tie.Need-same-length
-same-length c = search needs
-
 returns : tie.Need-returns
 returns c = (refl, segment-pasted (c .before .before .before .before .before .before .args .bytes .now) (c .before .before .put .ensures) (c .before .before .before .before .before .before .pre))
 
 pub put-part-spec : {M : Type 1} → statement M
-put-part-spec = tie.close (tie.spec put-requires add-result same-length returns)
+put-part-spec = tie.close (tie.spec (λ c κs. search needs) (λ c. search needs) (λ c. search needs) returns)

@@ -6,9 +6,6 @@ use borrow.Author.Needs.{needs}
 use Rattle.book_reader.proofs.fields.field.Statement.{statement}
 use Rattle.book_reader.proofs.fields.field.Tie as tie
 
-read-number-requires : tie.Need-read-number-requires
-read-number-requires c κs = search needs
-
 returns : tie.Need-returns
 returns c = let at = c .before .before .before .before .args in tells-refused (at .book .now) (at .b) (at .numbers .now) (c .before .read-number .ensures) (c .if1 .taken)
 
@@ -18,33 +15,12 @@ returns-2 c =
     let at = els .before .before .before .before .args in
     tells-20 (at .book .now) (at .b) (at .numbers .now) (els .before .read-number .ensures) (els .if1 .left) (c .if2 .taken)
 
-field-at-requires : tie.Need-field-at-requires
-field-at-requires c κs = search needs
-
-enum-known-next : tie.Need-enum-known-next
-enum-known-next c = search needs
-
-enum-told : tie.Need-enum-told
-enum-told c = search needs
-
 returns-3 : tie.Need-returns-3
 returns-3 c =
     let told = c .before .before in
     let els = told .before .before in
     let at = els .before .before .before .before .args in
     tells-none (at .book .now) (at .b) (at .numbers .now) (els .before .read-number .ensures) (els .if1 .left) (told .before .if2 .left) (sym (told .field-at .ensures) ∙ c .enum-told .given .1)
-
-cast-tell : tie.Need-cast-tell
-cast-tell c = search needs
-
-cast-tell-2 : tie.Need-cast-tell-2
-cast-tell-2 c = search needs
-
-tell-requires : tie.Need-tell-requires
-tell-requires c κs = search needs
-
-same-length : tie.Need-same-length
-same-length c = search needs
 
 returns-4 : tie.Need-returns-4
 returns-4 c =
@@ -59,15 +35,15 @@ pub field-spec : {M : Type 1} → statement M
 field-spec =
     tie.close
     (tie.spec
-    read-number-requires
+    (λ c κs. search needs)
     returns
     returns-2
-    field-at-requires
-    enum-known-next
-    enum-told
+    (λ c κs. search needs)
+    (λ c. search needs)
+    (λ c. search needs)
     returns-3
-    cast-tell
-    cast-tell-2
-    tell-requires
-    same-length
+    (λ c. search needs)
+    (λ c. search needs)
+    (λ c κs. search needs)
+    (λ c. search needs)
     returns-4)

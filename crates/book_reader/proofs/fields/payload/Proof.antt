@@ -5,22 +5,10 @@ use borrow.Author.Needs.{needs}
 use Rattle.book_reader.proofs.fields.payload.Statement.{statement}
 use Rattle.book_reader.proofs.fields.payload.Tie as tie
 
-read-number-requires : tie.Need-read-number-requires
-read-number-requires c κs = search needs
-
-answer-of-requires : tie.Need-answer-of-requires
-answer-of-requires c κs = search needs
-
 returns : tie.Need-returns
 returns c =
     let at = c .before .before .before .before .before .args in
     payload-refused (at .book .now) (at .b) (at .output .now) (c .before .before .read-number .ensures) (c .before .if1 .taken) (c .answer-of .ensures)
-
-copy-field-requires : tie.Need-copy-field-requires
-copy-field-requires c κs = search needs
-
-same-length : tie.Need-same-length
-same-length c = search needs
 
 returns-2 : tie.Need-returns-2
 returns-2 c =
@@ -32,9 +20,9 @@ pub payload-spec : {M : Type 1} → statement M
 payload-spec =
     tie.close
     (tie.spec
-    read-number-requires
-    answer-of-requires
+    (λ c κs. search needs)
+    (λ c κs. search needs)
     returns
-    copy-field-requires
-    same-length
+    (λ c κs. search needs)
+    (λ c. search needs)
     returns-2)

@@ -22,31 +22,13 @@ few c = whole-says (c .args .book .now) (c .pre) .1
 loop-holds : tie.Need-loop-holds Inv-loop μ-loop
 loop-holds c = passed-none _ _
 
-block-at-requires : tie.Need-block-at-requires Inv-loop μ-loop
-block-at-requires c κs = search needs
-
-add-fault-of : tie.Need-add-fault-of Inv-loop μ-loop
-add-fault-of c = search needs
-
 cast-fault-of : tie.Need-cast-fault-of Inv-loop μ-loop
 cast-fault-of c = omega (arith, few (c .before .before .before .before))
-
-fault-of-requires : tie.Need-fault-of-requires Inv-loop μ-loop
-fault-of-requires c κs = search needs
 
 returns : tie.Need-returns Inv-loop μ-loop
 returns c =
     let at = c .before .before in
     passed-stop (at .before .before .loop .inv) (search needs) (at .block-at .ensures) (c .before .fault-of .ensures) (c .if1 .taken)
-
-head-of-requires : tie.Need-head-of-requires Inv-loop μ-loop
-head-of-requires c κs = search needs
-
-add-b : tie.Need-add-b Inv-loop μ-loop
-add-b c = search needs
-
-loop-less : tie.Need-loop-less Inv-loop μ-loop
-loop-less c = search needs
 
 loop-again : tie.Need-loop-again Inv-loop μ-loop
 loop-again c =
@@ -63,13 +45,13 @@ first-fault-spec =
     Inv-loop
     μ-loop
     loop-holds
-    block-at-requires
-    add-fault-of
+    (λ c κs. search needs)
+    (λ c. search needs)
     cast-fault-of
-    fault-of-requires
+    (λ c κs. search needs)
     returns
-    head-of-requires
-    add-b
-    loop-less
+    (λ c κs. search needs)
+    (λ c. search needs)
+    (λ c. search needs)
     loop-again
     returns-2)

@@ -5,12 +5,9 @@ use borrow.Author.Needs.{needs}
 use Rattle.book_reader.proofs.reader.is_whole.Statement.{statement}
 use Rattle.book_reader.proofs.reader.is_whole.Tie as tie
 
-both-requires : tie.Need-both-requires
-both-requires c κs = search needs
-
 returns : tie.Need-returns
 unfolding whole
 returns c = search needs
 
 pub is-whole-spec : {M : Type 1} → statement M
-is-whole-spec = tie.close (tie.spec both-requires returns)
+is-whole-spec = tie.close (tie.spec (λ c κs. search needs) returns)

@@ -5,9 +5,6 @@ use borrow.Author.Needs.{needs}
 use Rattle.book_reader.proofs.reader.read_number.Statement.{statement}
 use Rattle.book_reader.proofs.reader.read_number.Tie as tie
 
-is-whole-requires : tie.Need-is-whole-requires
-is-whole-requires c κs = search needs
-
 first-fault-requires : tie.Need-first-fault-requires
 first-fault-requires c κs = sym (c .before .is-whole .ensures) ∙ c .if1 .taken
 
@@ -18,4 +15,4 @@ returns-2 : tie.Need-returns-2
 returns-2 c = read-40 _ (sym (c .before .is-whole .ensures) ∙ c .if1 .left)
 
 pub read-number-spec : {M : Type 1} → statement M
-read-number-spec = tie.close (tie.spec is-whole-requires first-fault-requires returns returns-2)
+read-number-spec = tie.close (tie.spec (λ c κs. search needs) first-fault-requires returns returns-2)

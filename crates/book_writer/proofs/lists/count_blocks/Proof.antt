@@ -18,26 +18,8 @@ loop-holds : tie.Need-loop-holds Inv-loop μ-loop
 unfolding blocks
 loop-holds c = (omega arith, refl)
 
-mul-parts-in : tie.Need-mul-parts-in Inv-loop μ-loop
-mul-parts-in c = search needs
-
-shared-slice-read-parts-in : tie.Need-shared-slice-read-parts-in Inv-loop μ-loop
-shared-slice-read-parts-in c = search needs
-
-parts-in-requires : tie.Need-parts-in-requires Inv-loop μ-loop
-parts-in-requires c κs = search needs
-
 add-least : tie.Need-add-least Inv-loop μ-loop
 add-least c = omega (arith, c .before .shared-slice-known2 .given (c .before .before .before .loop .i))
-
-least-requires : tie.Need-least-requires Inv-loop μ-loop
-least-requires c κs = search needs
-
-add-i : tie.Need-add-i Inv-loop μ-loop
-add-i c = search needs
-
-loop-less : tie.Need-loop-less Inv-loop μ-loop
-loop-less c = search needs
 
 loop-again : tie.Need-loop-again Inv-loop μ-loop
 loop-again c = (omega arith, omega (arith, blocks-more (c .before .before .before .before .loop .i) (c .before .before .before .before .before .before .args .sizes .now)))
@@ -54,12 +36,12 @@ count-blocks-spec =
     Inv-loop
     μ-loop
     loop-holds
-    mul-parts-in
-    shared-slice-read-parts-in
-    parts-in-requires
+    (λ c. search needs)
+    (λ c. search needs)
+    (λ c κs. search needs)
     add-least
-    least-requires
-    add-i
-    loop-less
+    (λ c κs. search needs)
+    (λ c. search needs)
+    (λ c. search needs)
     loop-again
     returns)

@@ -18,35 +18,8 @@ abbrev μ-loop : tie.MeasureT-loop
 loop-holds : tie.Need-loop-holds Inv-loop μ-loop
 loop-holds c = ordered-none _ _ _ _
 
-mul-e : tie.Need-mul-e Inv-loop μ-loop
-mul-e c = search needs
-
-shared-slice-read-e : tie.Need-shared-slice-read-e Inv-loop μ-loop
-shared-slice-read-e c = search needs
-
-shared-slice-read-k : tie.Need-shared-slice-read-k Inv-loop μ-loop
-shared-slice-read-k c = search needs
-
-mul-field-fits : tie.Need-mul-field-fits Inv-loop μ-loop
-mul-field-fits c = search needs
-
-shared-slice-read-field-fits : tie.Need-shared-slice-read-field-fits Inv-loop μ-loop
-shared-slice-read-field-fits c = search needs
-
-field-fits-requires : tie.Need-field-fits-requires Inv-loop μ-loop
-field-fits-requires c κs = search needs
-
 returns : tie.Need-returns Inv-loop μ-loop
 returns c = ordered-stop (c .before .before .before .before .before .before .loop .inv) (search needs) (c .before .field-fits .ensures) (not-true _ (c .if1 .taken))
-
-rank-of-requires : tie.Need-rank-of-requires Inv-loop μ-loop
-rank-of-requires c κs = search needs
-
-add-i : tie.Need-add-i Inv-loop μ-loop
-add-i c = search needs
-
-loop-less : tie.Need-loop-less Inv-loop μ-loop
-loop-less c = search needs
 
 loop-again : tie.Need-loop-again Inv-loop μ-loop
 loop-again c = ordered-next (c .before .before .before .before .before .before .before .loop .inv) (search needs) (c .before .before .field-fits .ensures) (not-false _ (c .before .if1 .left)) (c .rank-of .ensures)
@@ -61,15 +34,15 @@ is-orderly-spec =
     Inv-loop
     μ-loop
     loop-holds
-    mul-e
-    shared-slice-read-e
-    shared-slice-read-k
-    mul-field-fits
-    shared-slice-read-field-fits
-    field-fits-requires
+    (λ c. search needs)
+    (λ c. search needs)
+    (λ c. search needs)
+    (λ c. search needs)
+    (λ c. search needs)
+    (λ c κs. search needs)
     returns
-    rank-of-requires
-    add-i
-    loop-less
+    (λ c κs. search needs)
+    (λ c. search needs)
+    (λ c. search needs)
     loop-again
     returns-2)

@@ -7,9 +7,6 @@ use borrow.Author.Needs.{needs}
 use Rattle.book_writer.proofs.lists.write_refusal.Statement.{statement}
 use Rattle.book_writer.proofs.lists.write_refusal.Tie as tie
 
-lists-fit-requires : tie.Need-lists-fit-requires
-lists-fit-requires c κs = search needs
-
 returns : tie.Need-returns
 returns c = refuse-lists _ _ _ _ _ (sym (c .before .lists-fit .ensures) ∙ not-true _ (c .if1 .taken))
 
@@ -23,21 +20,12 @@ returns-2 c =
     let fits = c .before .before in
     refuse-order _ _ _ _ _ (sym (fits .before .lists-fit .ensures) ∙ not-false _ (fits .if1 .left)) (sym (c .before .is-orderly .ensures) ∙ not-true _ (c .if2 .taken))
 
-count-blocks-requires : tie.Need-count-blocks-requires
-count-blocks-requires c κs = search needs
-
 returns-3 : tie.Need-returns-3
 returns-3 c =
     let ordered = c .before .before in
     let fits = ordered .before .before in
     refuse-blocks _ _ _ _ _ (sym (fits .before .lists-fit .ensures) ∙ not-false _ (fits .if1 .left)) (sym (ordered .before .is-orderly .ensures) ∙ not-false _ (ordered .if2 .left))
     (c .before .count-blocks .ensures) (c .if3 .taken)
-
-mul-first-of : tie.Need-mul-first-of
-mul-first-of c = search needs
-
-first-of-requires : tie.Need-first-of-requires
-first-of-requires c κs = search needs
 
 returns-4 : tie.Need-returns-4
 returns-4 c =
@@ -51,12 +39,12 @@ pub write-refusal-spec : {M : Type 1} → statement M
 write-refusal-spec =
     tie.close
     (tie.spec
-    lists-fit-requires
+    (λ c κs. search needs)
     returns
     is-orderly-requires
     returns-2
-    count-blocks-requires
+    (λ c κs. search needs)
     returns-3
-    mul-first-of
-    first-of-requires
+    (λ c. search needs)
+    (λ c κs. search needs)
     returns-4)

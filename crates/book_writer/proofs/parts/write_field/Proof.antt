@@ -13,37 +13,16 @@ Inv-loop out₀ b exercise kind bytes count n₀ out n = (n ≤ count) × Going 
 abbrev μ-loop : tie.MeasureT-loop
 μ-loop out₀ b exercise kind bytes count n₀ out n = count - n
 
-sub-count : tie.Need-sub-count Inv-loop μ-loop
-sub-count c = search needs
-
-add-count : tie.Need-add-count Inv-loop μ-loop
-add-count c = search needs
-
 loop-holds : tie.Need-loop-holds Inv-loop μ-loop
 loop-holds c = (omega arith, field-none _ _ _ _)
 
-cast-t13 : tie.Need-cast-t13 Inv-loop μ-loop
-cast-t13 c = search needs
-
-add-write-part : tie.Need-add-write-part Inv-loop μ-loop
-add-write-part c = search needs
-
 write-part-requires : tie.Need-write-part-requires Inv-loop μ-loop
 write-part-requires c κs = (omega arith, (omega (arith, c .before .before .loop .inv .1 .long), omega arith))
-
-add-n : tie.Need-add-n Inv-loop μ-loop
-add-n c = search needs
-
-loop-less : tie.Need-loop-less Inv-loop μ-loop
-loop-less c = search needs
 
 loop-again : tie.Need-loop-again Inv-loop μ-loop
 loop-again c =
     let at = c .before .before .before .before .before in
     (omega arith, field-next _ _ _ (at .loop .n) _ (at .loop .inv .1) (omega arith) (c .before .before .write-part .ensures))
-
-add-result : tie.Need-add-result Inv-loop μ-loop
-add-result c = search needs
 
 same-length : tie.Need-same-length Inv-loop μ-loop
 same-length c = c .before .loop .inv .1 .long
@@ -59,15 +38,15 @@ write-field-spec =
     (tie.spec
     Inv-loop
     μ-loop
-    sub-count
-    add-count
+    (λ c. search needs)
+    (λ c. search needs)
     loop-holds
-    cast-t13
-    add-write-part
+    (λ c. search needs)
+    (λ c. search needs)
     write-part-requires
-    add-n
-    loop-less
+    (λ c. search needs)
+    (λ c. search needs)
     loop-again
-    add-result
+    (λ c. search needs)
     same-length
     returns)

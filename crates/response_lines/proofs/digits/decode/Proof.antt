@@ -10,14 +10,8 @@ use borrow.Author.Needs.{needs}
 use Rattle.response_lines.proofs.digits.decode.Statement.{statement}
 use Rattle.response_lines.proofs.digits.decode.Tie as tie
 
-decode-refusal-requires : tie.Need-decode-refusal-requires
-decode-refusal-requires c κs = search needs
-
 decode-all-requires : tie.Need-decode-all-requires
 decode-all-requires c κs = let at = c .before .before in decode-allowed _ _ (sym (at .decode-refusal .ensures) ∙ c .before .if1 .taken) .fits
-
-answer-of-requires : tie.Need-answer-of-requires
-answer-of-requires c κs = search needs
 
 same-length : tie.Need-same-length
 same-length c = ⊎-elim (λ w. ap length (w .5) ∙ w .2 .kept .1 .0) (λ w. ap length (w .1)) (c .before .if1 .came)
@@ -28,4 +22,4 @@ returns c = let s = c .before .before .before .before .before .before .args in l
 pub decode-spec : {M : Type 1} → statement M
 decode-spec =
     tie.close
-    (tie.spec decode-refusal-requires decode-all-requires answer-of-requires same-length returns)
+    (tie.spec (λ c κs. search needs) decode-all-requires (λ c κs. search needs) same-length returns)

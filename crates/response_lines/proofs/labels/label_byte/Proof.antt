@@ -5,18 +5,6 @@ use borrow.Author.Needs.{needs}
 use Rattle.response_lines.proofs.labels.label_byte.Statement.{statement}
 use Rattle.response_lines.proofs.labels.label_byte.Tie as tie
 
-wider-requires : tie.Need-wider-requires
-wider-requires c κs = search needs
-
-mul-result : tie.Need-mul-result
-mul-result c = search needs
-
-wider-requires-2 : tie.Need-wider-requires-2
-wider-requires-2 c κs = search needs
-
-add-result : tie.Need-add-result
-add-result c = search needs
-
 array-read-result : tie.Need-array-read-result
 array-read-result c = let a = c .before .before .args in omega (arith, label-due _ _ (c .before .before .pre), label-short (a .field), c .before .wider .ensures, c .wider2 .ensures)
 
@@ -26,4 +14,4 @@ returns c = rw (c .before .wider .ensures, c .wider2 .ensures) (label-byte _ _ (
 pub label-byte-spec : {M : Type 1} → statement M
 label-byte-spec =
     tie.close
-    (tie.spec wider-requires mul-result wider-requires-2 add-result array-read-result returns)
+    (tie.spec (λ c κs. search needs) (λ c. search needs) (λ c κs. search needs) (λ c. search needs) array-read-result returns)

@@ -7,12 +7,6 @@ use borrow.Author.Needs.{needs}
 use Rattle.response_lines.proofs.labels.label_length.Statement.{statement}
 use Rattle.response_lines.proofs.labels.label_length.Tie as tie
 
-wider-requires : tie.Need-wider-requires
-wider-requires c κs = search needs
-
-array-read-result : tie.Need-array-read-result
-array-read-result c = search needs
-
 returns : tie.Need-returns
 returns c = rw (c .wider .ensures) (label-length _ (c .before .if1 .taken))
 
@@ -20,4 +14,4 @@ returns-2 : tie.Need-returns-2
 returns-2 c = sym (ap length (label-past _ (c .if1 .left)))
 
 pub label-length-spec : {M : Type 1} → statement M
-label-length-spec = tie.close (tie.spec wider-requires array-read-result returns returns-2)
+label-length-spec = tie.close (tie.spec (λ c κs. search needs) (λ c. search needs) returns returns-2)

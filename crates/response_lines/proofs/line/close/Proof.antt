@@ -6,50 +6,17 @@ use borrow.Author.Needs.{needs}
 use Rattle.response_lines.proofs.line.close.Statement.{statement}
 use Rattle.response_lines.proofs.line.close.Tie as tie
 
-enum-told : tie.Need-enum-told
-enum-told c = search needs
-
-whole-requires : tie.Need-whole-requires
-whole-requires c κs = search needs
-
 returns : tie.Need-returns
 unfolding closed
 returns c = rw (c .before .before .enum-told .given .1, ← c .before .whole .ensures, c .if1 .taken)
-
-enum-told-2 : tie.Need-enum-told-2
-enum-told-2 c = search needs
-
-enum-told-3 : tie.Need-enum-told-3
-enum-told-3 c = search needs
-
-enum-known-line : tie.Need-enum-known-line
-enum-known-line c = search needs
 
 returns-2 : tie.Need-returns-2
 unfolding closed
 returns-2 c = rw (c .before .before .line .given .1, eq-eqb _ _ (c .if2 .taken))
 
-enum-told-4 : tie.Need-enum-told-4
-enum-told-4 c = search needs
-
-enum-told-5 : tie.Need-enum-told-5
-enum-told-5 c = search needs
-
-enum-known-line-2 : tie.Need-enum-known-line-2
-enum-known-line-2 c = search needs
-
 returns-3 : tie.Need-returns-3
 unfolding closed
 returns-3 c = rw (c .before .before .line2 .given .1, le-leb _ _ (c .if3 .taken))
-
-enum-told-6 : tie.Need-enum-told-6
-enum-told-6 c = search needs
-
-enum-told-7 : tie.Need-enum-told-7
-enum-told-7 c = search needs
-
-enum-known-line-3 : tie.Need-enum-known-line-3
-enum-known-line-3 c = search needs
 
 returns-4 : tie.Need-returns-4
 unfolding closed
@@ -95,20 +62,20 @@ pub close-spec : {M : Type 1} → statement M
 close-spec =
     tie.close
     (tie.spec
-    enum-told
-    whole-requires
+    (λ c. search needs)
+    (λ c κs. search needs)
     returns
-    enum-told-2
-    enum-told-3
-    enum-known-line
+    (λ c. search needs)
+    (λ c. search needs)
+    (λ c. search needs)
     returns-2
-    enum-told-4
-    enum-told-5
-    enum-known-line-2
+    (λ c. search needs)
+    (λ c. search needs)
+    (λ c. search needs)
     returns-3
-    enum-told-6
-    enum-told-7
-    enum-known-line-3
+    (λ c. search needs)
+    (λ c. search needs)
+    (λ c. search needs)
     returns-4
     returns-5
     returns-6

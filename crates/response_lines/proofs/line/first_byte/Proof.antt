@@ -10,12 +10,9 @@ returns : tie.Need-returns
 unfolding next
 returns c = rw (eq-eqb _ _ (c .if1 .taken))
 
-labelled-requires : tie.Need-labelled-requires
-labelled-requires c κs = search needs
-
 returns-2 : tie.Need-returns-2
 unfolding next
 returns-2 c = rw (ne-eqb _ _ (c .before .if1 .left)) (c .labelled .ensures)
 
 pub first-byte-spec : {M : Type 1} → statement M
-first-byte-spec = tie.close (tie.spec returns labelled-requires returns-2)
+first-byte-spec = tie.close (tie.spec returns (λ c κs. search needs) returns-2)

@@ -6,15 +6,6 @@ use borrow.Author.Needs.{needs}
 use Rattle.response_lines.proofs.line.grow_number.Statement.{statement}
 use Rattle.response_lines.proofs.line.grow_number.Tie as tie
 
-mul-result : tie.Need-mul-result
-mul-result c = search needs
-
-wide-requires : tie.Need-wide-requires
-wide-requires c κs = search needs
-
-add-result : tie.Need-add-result
-add-result c = search needs
-
 returns : tie.Need-returns
 unfolding grown
 returns c = simp (le-leb _ _ (c .before .if1 .taken), c .wide .ensures)
@@ -24,4 +15,4 @@ unfolding grown
 returns-2 c = simp (lt-leb _ _ (c .if1 .left))
 
 pub grow-number-spec : {M : Type 1} → statement M
-grow-number-spec = tie.close (tie.spec mul-result wide-requires add-result returns returns-2)
+grow-number-spec = tie.close (tie.spec (λ c. search needs) (λ c κs. search needs) (λ c. search needs) returns returns-2)

@@ -6,48 +6,9 @@ use borrow.Author.Needs.{needs}
 use Rattle.response_lines.proofs.line.handed.Statement.{statement}
 use Rattle.response_lines.proofs.line.handed.Tie as tie
 
-enum-known-line : tie.Need-enum-known-line
-enum-known-line c = search needs
-
-digit-requires : tie.Need-digit-requires
-digit-requires c κs = search needs
-
-mul-t9 : tie.Need-mul-t9
-mul-t9 c = search needs
-
-add-t10 : tie.Need-add-t10
-add-t10 c = search needs
-
 returns : tie.Need-returns
 unfolding handed
 returns c = rw (c .before .before .before .line .given .1, ← c .before .digit .ensures, lt-ltb _ _ (c .if1 .taken))
-
-enum-told : tie.Need-enum-told
-enum-told c = search needs
-
-enum-told-2 : tie.Need-enum-told-2
-enum-told-2 c = search needs
-
-enum-told-3 : tie.Need-enum-told-3
-enum-told-3 c = search needs
-
-enum-told-4 : tie.Need-enum-told-4
-enum-told-4 c = search needs
-
-enum-told-5 : tie.Need-enum-told-5
-enum-told-5 c = search needs
-
-enum-told-6 : tie.Need-enum-told-6
-enum-told-6 c = search needs
-
-enum-told-7 : tie.Need-enum-told-7
-enum-told-7 c = search needs
-
-enum-told-8 : tie.Need-enum-told-8
-enum-told-8 c = search needs
-
-enum-told-9 : tie.Need-enum-told-9
-enum-told-9 c = search needs
 
 returns-2 : tie.Need-returns-2
 unfolding handed
@@ -93,20 +54,20 @@ pub handed-spec : {M : Type 1} → statement M
 handed-spec =
     tie.close
     (tie.spec
-    enum-known-line
-    digit-requires
-    mul-t9
-    add-t10
+    (λ c. search needs)
+    (λ c κs. search needs)
+    (λ c. search needs)
+    (λ c. search needs)
     returns
-    enum-told
-    enum-told-2
-    enum-told-3
-    enum-told-4
-    enum-told-5
-    enum-told-6
-    enum-told-7
-    enum-told-8
-    enum-told-9
+    (λ c. search needs)
+    (λ c. search needs)
+    (λ c. search needs)
+    (λ c. search needs)
+    (λ c. search needs)
+    (λ c. search needs)
+    (λ c. search needs)
+    (λ c. search needs)
+    (λ c. search needs)
     returns-2
     returns-3
     returns-4

@@ -11,24 +11,9 @@ use borrow.Author.Needs.{needs}
 use Rattle.response_lines.proofs.line.labelled.Statement.{statement}
 use Rattle.response_lines.proofs.line.labelled.Tie as tie
 
-label-length-requires : tie.Need-label-length-requires
-label-length-requires c κs = search needs
-
-label-byte-requires : tie.Need-label-byte-requires
-label-byte-requires c κs = search needs
-
-add-if3 : tie.Need-add-if3
-add-if3 c = search needs
-
-value-start-requires : tie.Need-value-start-requires
-value-start-requires c κs = search needs
-
 returns : tie.Need-returns
 unfolding labelled separatorAt
 returns c = let s = c .before .before .before .before .before in rw (← s .label-length .ensures, lt-ltb _ _ (c .before .before .before .before .if1 .taken), ← c .before .before .before .label-byte .ensures, eq-eqb _ _ (c .before .before .if2 .taken), eq-eqb _ _ (c .before .if3 .taken)) (c .value-start .ensures)
-
-add-t8 : tie.Need-add-t8
-add-t8 c = search needs
 
 returns-2 : tie.Need-returns-2
 unfolding labelled separatorAt
@@ -40,25 +25,13 @@ add-if4 c = omega (arith, label-short (c .before .before .before .before .args .
 add-found : tie.Need-add-found
 add-found c = omega (arith, label-short (c .before .before .before .before .before .args .field))
 
-sub-found : tie.Need-sub-found
-sub-found c = search needs
-
-found-requires : tie.Need-found-requires
-found-requires c κs = search needs
-
 returns-3 : tie.Need-returns-3
 unfolding labelled separatorAt
 returns-3 c = let s = c .before .before .before .before .before in rw (← s .label-length .ensures, lt-ltb _ _ (c .before .before .before .before .if1 .taken), ← c .before .before .before .label-byte .ensures, ne-eqb _ _ (c .before .before .if2 .left), c .found .ensures)
 
-found-requires-2 : tie.Need-found-requires-2
-found-requires-2 c κs = search needs
-
 returns-4 : tie.Need-returns-4
 unfolding labelled separatorAt
 returns-4 c = let s = c .before .before .before .before .before in let z : s .before .args .at + 3 - s .label-length .result ≡ 0 = omega arith in rw (← s .label-length .ensures, lt-ltb _ _ (c .before .before .before .before .if1 .taken), ← c .before .before .before .label-byte .ensures, ne-eqb _ _ (c .before .before .if2 .left), z, c .found2 .ensures)
-
-found-requires-3 : tie.Need-found-requires-3
-found-requires-3 c κs = search needs
 
 returns-5 : tie.Need-returns-5
 unfolding labelled separatorAt
@@ -68,19 +41,19 @@ pub labelled-spec : {M : Type 1} → statement M
 labelled-spec =
     tie.close
     (tie.spec
-    label-length-requires
-    label-byte-requires
-    add-if3
-    value-start-requires
+    (λ c κs. search needs)
+    (λ c κs. search needs)
+    (λ c. search needs)
+    (λ c κs. search needs)
     returns
-    add-t8
+    (λ c. search needs)
     returns-2
     add-if4
     add-found
-    sub-found
-    found-requires
+    (λ c. search needs)
+    (λ c κs. search needs)
     returns-3
-    found-requires-2
+    (λ c κs. search needs)
     returns-4
-    found-requires-3
+    (λ c κs. search needs)
     returns-5)

@@ -6,9 +6,6 @@ use borrow.Author.Needs.{needs}
 use Rattle.response_lines.proofs.line.low_digit.Statement.{statement}
 use Rattle.response_lines.proofs.line.low_digit.Tie as tie
 
-digit-requires : tie.Need-digit-requires
-digit-requires c κs = search needs
-
 returns : tie.Need-returns
 unfolding next
 returns c = rw (← c .before .digit .ensures, lt-ltb _ _ (c .if1 .taken))
@@ -18,4 +15,4 @@ unfolding next
 returns-2 c = rw (← c .before .digit .ensures, le-ltb _ _ (c .if1 .left))
 
 pub low-digit-spec : {M : Type 1} → statement M
-low-digit-spec = tie.close (tie.spec digit-requires returns returns-2)
+low-digit-spec = tie.close (tie.spec (λ c κs. search needs) returns returns-2)

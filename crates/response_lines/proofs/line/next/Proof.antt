@@ -5,57 +5,6 @@ use borrow.Author.Needs.{needs}
 use Rattle.response_lines.proofs.line.next.Statement.{statement}
 use Rattle.response_lines.proofs.line.next.Tie as tie
 
-enum-told : tie.Need-enum-told
-enum-told c = search needs
-
-first-byte-requires : tie.Need-first-byte-requires
-first-byte-requires c κs = search needs
-
-enum-told-2 : tie.Need-enum-told-2
-enum-told-2 c = search needs
-
-enum-known-line : tie.Need-enum-known-line
-enum-known-line c = search needs
-
-labelled-requires : tie.Need-labelled-requires
-labelled-requires c κs = search needs
-
-enum-known-line-2 : tie.Need-enum-known-line-2
-enum-known-line-2 c = search needs
-
-found-requires : tie.Need-found-requires
-found-requires c κs = search needs
-
-enum-told-3 : tie.Need-enum-told-3
-enum-told-3 c = search needs
-
-enum-told-4 : tie.Need-enum-told-4
-enum-told-4 c = search needs
-
-first-digit-requires : tie.Need-first-digit-requires
-first-digit-requires c κs = search needs
-
-enum-known-line-3 : tie.Need-enum-known-line-3
-enum-known-line-3 c = search needs
-
-number-digit-requires : tie.Need-number-digit-requires
-number-digit-requires c κs = search needs
-
-enum-told-5 : tie.Need-enum-told-5
-enum-told-5 c = search needs
-
-high-digit-requires : tie.Need-high-digit-requires
-high-digit-requires c κs = search needs
-
-enum-told-6 : tie.Need-enum-told-6
-enum-told-6 c = search needs
-
-low-digit-requires : tie.Need-low-digit-requires
-low-digit-requires c κs = search needs
-
-enum-known-line-4 : tie.Need-enum-known-line-4
-enum-known-line-4 c = search needs
-
 returns : tie.Need-returns
 unfolding next
 returns c = rw (c .before .enum-told .given .1) (c .first-byte .ensures)
@@ -100,23 +49,23 @@ pub next-spec : {M : Type 1} → statement M
 next-spec =
     tie.close
     (tie.spec
-    enum-told
-    first-byte-requires
-    enum-told-2
-    enum-known-line
-    labelled-requires
-    enum-known-line-2
-    found-requires
-    enum-told-3
-    enum-told-4
-    first-digit-requires
-    enum-known-line-3
-    number-digit-requires
-    enum-told-5
-    high-digit-requires
-    enum-told-6
-    low-digit-requires
-    enum-known-line-4
+    (λ c. search needs)
+    (λ c κs. search needs)
+    (λ c. search needs)
+    (λ c. search needs)
+    (λ c κs. search needs)
+    (λ c. search needs)
+    (λ c κs. search needs)
+    (λ c. search needs)
+    (λ c. search needs)
+    (λ c κs. search needs)
+    (λ c. search needs)
+    (λ c κs. search needs)
+    (λ c. search needs)
+    (λ c κs. search needs)
+    (λ c. search needs)
+    (λ c κs. search needs)
+    (λ c. search needs)
     returns
     returns-2
     returns-3

@@ -6,12 +6,6 @@ use borrow.Author.Needs.{needs}
 use Rattle.response_lines.proofs.line.number_digit.Statement.{statement}
 use Rattle.response_lines.proofs.line.number_digit.Tie as tie
 
-digit-requires : tie.Need-digit-requires
-digit-requires c κs = search needs
-
-grow-number-requires : tie.Need-grow-number-requires
-grow-number-requires c κs = search needs
-
 returns : tie.Need-returns
 unfolding next
 returns c = rw (← c .before .before .digit .ensures, lt-ltb _ _ (c .before .if1 .taken), c .grow-number .ensures)
@@ -21,4 +15,4 @@ unfolding next
 returns-2 c = rw (← c .before .digit .ensures, le-ltb _ _ (c .if1 .left))
 
 pub number-digit-spec : {M : Type 1} → statement M
-number-digit-spec = tie.close (tie.spec digit-requires grow-number-requires returns returns-2)
+number-digit-spec = tie.close (tie.spec (λ c κs. search needs) (λ c κs. search needs) returns returns-2)

@@ -5,9 +5,6 @@ use borrow.Author.Needs.{needs}
 use Rattle.response_lines.proofs.line.value_start.Statement.{statement}
 use Rattle.response_lines.proofs.line.value_start.Tie as tie
 
-is-number-requires : tie.Need-is-number-requires
-is-number-requires c κs = search needs
-
 returns : tie.Need-returns
 unfolding valueStart
 returns c = rw (← c .before .is-number .ensures, c .if1 .taken)
@@ -17,4 +14,4 @@ unfolding valueStart
 returns-2 c = rw (← c .before .is-number .ensures, c .if1 .left)
 
 pub value-start-spec : {M : Type 1} → statement M
-value-start-spec = tie.close (tie.spec is-number-requires returns returns-2)
+value-start-spec = tie.close (tie.spec (λ c κs. search needs) returns returns-2)

@@ -15,18 +15,6 @@ here : (p : tie.After-place) → let a = p .before .before .before .before .befo
     Here (a .file .now) (a .field) (p .place .given .0 .0) (p .place .given .0 .1 .0) (soughtIn (a .file .now) (a .entry) (a .field))
 here p = let f = p .before .before in let a = f .before .before .before .args in seeks-here (a .file .now) (a .entry) (a .field) (f .find .ensures) (p .place .given .1)
 
-find-requires : tie.Need-find-requires
-find-requires c κs = search needs
-
-enum-known-place : tie.Need-enum-known-place
-enum-known-place c = search needs
-
-label-length-requires : tie.Need-label-length-requires
-label-length-requires c κs = search needs
-
-wider-requires : tie.Need-wider-requires
-wider-requires c κs = search needs
-
 add-from : tie.Need-add-from
 add-from c =
     let h = here (c .before .before .before) in omega (arith, h .low, h .high, c .wider .ensures, c .before .label-length .ensures)
@@ -42,21 +30,6 @@ part-decode-start c =
 part-decode-end : tie.Need-part-decode-end
 part-decode-end c =
     here (c .before .before .before) .high
-
-decode-requires : tie.Need-decode-requires
-decode-requires c κs = search needs
-
-passed-on-requires : tie.Need-passed-on-requires
-passed-on-requires c κs = search needs
-
-enum-known-place-2 : tie.Need-enum-known-place-2
-enum-known-place-2 c = search needs
-
-not-found-requires : tie.Need-not-found-requires
-not-found-requires c κs = search needs
-
-same-length : tie.Need-same-length
-same-length c = search needs
 
 returns : tie.Need-returns
 returns c =
@@ -85,18 +58,18 @@ pub collect-spec : {M : Type 1} → statement M
 collect-spec =
     tie.close
     (tie.spec
-    find-requires
-    enum-known-place
-    label-length-requires
-    wider-requires
+    (λ c κs. search needs)
+    (λ c. search needs)
+    (λ c κs. search needs)
+    (λ c κs. search needs)
     add-from
     sub-decode
     part-decode-start
     part-decode-end
-    decode-requires
-    passed-on-requires
-    enum-known-place-2
-    not-found-requires
-    same-length
+    (λ c κs. search needs)
+    (λ c κs. search needs)
+    (λ c. search needs)
+    (λ c κs. search needs)
+    (λ c. search needs)
     returns
     returns-2)

@@ -16,20 +16,8 @@ Inv-loop file entry field here₀ left₀ line₀ at₀ here left line at = seek
 abbrev μ-loop : tie.MeasureT-loop
 μ-loop file entry field here₀ left₀ line₀ at₀ here left line at = length file - at
 
-start-requires : tie.Need-start-requires Inv-loop μ-loop
-start-requires c κs = search needs
-
 loop-holds : tie.Need-loop-holds Inv-loop μ-loop
 loop-holds c = refl
-
-shared-slice-read-byte : tie.Need-shared-slice-read-byte Inv-loop μ-loop
-shared-slice-read-byte c = search needs
-
-step-requires : tie.Need-step-requires Inv-loop μ-loop
-step-requires c κs = search needs
-
-is-here-requires : tie.Need-is-here-requires Inv-loop μ-loop
-is-here-requires c κs = search needs
 
 returns : tie.Need-returns Inv-loop μ-loop
 returns c =
@@ -43,18 +31,6 @@ returns c =
     ∙ l .loop .inv
     ∙ ap (λ r. seeks (a .field) (a .entry) r 0 0 file) (l .before .start .ensures)
 
-passing-requires : tie.Need-passing-requires Inv-loop μ-loop
-passing-requires c κs = search needs
-
-add-at : tie.Need-add-at Inv-loop μ-loop
-add-at c = search needs
-
-line-start-requires : tie.Need-line-start-requires Inv-loop μ-loop
-line-start-requires c κs = search needs
-
-loop-less : tie.Need-loop-less Inv-loop μ-loop
-loop-less c = search needs
-
 loop-again : tie.Need-loop-again Inv-loop μ-loop
 loop-again c =
     let p = c .before in
@@ -67,9 +43,6 @@ loop-again c =
     ∙ seeks-goes (a .field) (l .loop .left) (l .loop .here) (l .loop .line) (l .loop .at) file (s .before .before .loop-test .taken) (s .step .ensures)
     (sym (h .is-here .ensures) ∙ p .before .if1 .left)
     ∙ l .loop .inv
-
-end-requires : tie.Need-end-requires Inv-loop μ-loop
-end-requires c κs = search needs
 
 returns-2 : tie.Need-returns-2 Inv-loop μ-loop
 returns-2 c =
@@ -87,16 +60,16 @@ find-spec =
     (tie.spec
     Inv-loop
     μ-loop
-    start-requires
+    (λ c κs. search needs)
     loop-holds
-    shared-slice-read-byte
-    step-requires
-    is-here-requires
+    (λ c. search needs)
+    (λ c κs. search needs)
+    (λ c κs. search needs)
     returns
-    passing-requires
-    add-at
-    line-start-requires
-    loop-less
+    (λ c κs. search needs)
+    (λ c. search needs)
+    (λ c κs. search needs)
+    (λ c. search needs)
     loop-again
-    end-requires
+    (λ c κs. search needs)
     returns-2)

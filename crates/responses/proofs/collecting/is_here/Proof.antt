@@ -5,9 +5,6 @@ use borrow.Author.Needs.{needs}
 use Rattle.responses.proofs.collecting.is_here.Statement.{statement}
 use Rattle.responses.proofs.collecting.is_here.Tie as tie
 
-ending-requires : tie.Need-ending-requires
-ending-requires c κs = search needs
-
 returns : tie.Need-returns
 returns c = rw (eq-eqb _ _ (c .before .if1 .taken)) (c .ending .ensures)
 
@@ -15,4 +12,4 @@ returns-2 : tie.Need-returns-2
 returns-2 c = rw (ne-eqb _ _ (c .if1 .left))
 
 pub is-here-spec : {M : Type 1} → statement M
-is-here-spec = tie.close (tie.spec ending-requires returns returns-2)
+is-here-spec = tie.close (tie.spec (λ c κs. search needs) returns returns-2)

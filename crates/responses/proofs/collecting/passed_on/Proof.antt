@@ -5,12 +5,6 @@ use borrow.Author.Needs.{needs}
 use Rattle.responses.proofs.collecting.passed_on.Statement.{statement}
 use Rattle.responses.proofs.collecting.passed_on.Tie as tie
 
-enum-told : tie.Need-enum-told
-enum-told c = search needs
-
-enum-known-answer : tie.Need-enum-known-answer
-enum-known-answer c = search needs
-
 returns : tie.Need-returns
 unfolding passedOn
 returns c = rw (c .enum-told .given .1)
@@ -20,4 +14,4 @@ unfolding passedOn
 returns-2 c = rw (c .before .answer .given .1)
 
 pub passed-on-spec : {M : Type 1} → statement M
-passed-on-spec = tie.close (tie.spec enum-told enum-known-answer returns returns-2)
+passed-on-spec = tie.close (tie.spec (λ c. search needs) (λ c. search needs) returns returns-2)

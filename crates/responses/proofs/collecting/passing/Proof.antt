@@ -5,27 +5,6 @@ use borrow.Author.Needs.{needs}
 use Rattle.responses.proofs.collecting.passing.Statement.{statement}
 use Rattle.responses.proofs.collecting.passing.Tie as tie
 
-enum-told : tie.Need-enum-told
-enum-told c = search needs
-
-enum-told-2 : tie.Need-enum-told-2
-enum-told-2 c = search needs
-
-enum-told-3 : tie.Need-enum-told-3
-enum-told-3 c = search needs
-
-enum-told-4 : tie.Need-enum-told-4
-enum-told-4 c = search needs
-
-enum-told-5 : tie.Need-enum-told-5
-enum-told-5 c = search needs
-
-one-less-requires : tie.Need-one-less-requires
-one-less-requires c κs = search needs
-
-enum-told-6 : tie.Need-enum-told-6
-enum-told-6 c = search needs
-
 returns : tie.Need-returns
 unfolding passing
 returns c = rw (c .enum-told .given .1)
@@ -54,13 +33,13 @@ pub passing-spec : {M : Type 1} → statement M
 passing-spec =
     tie.close
     (tie.spec
-    enum-told
-    enum-told-2
-    enum-told-3
-    enum-told-4
-    enum-told-5
-    one-less-requires
-    enum-told-6
+    (λ c. search needs)
+    (λ c. search needs)
+    (λ c. search needs)
+    (λ c. search needs)
+    (λ c. search needs)
+    (λ c κs. search needs)
+    (λ c. search needs)
     returns
     returns-2
     returns-3

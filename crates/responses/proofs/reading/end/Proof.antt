@@ -5,42 +5,9 @@ use borrow.Author.Needs.{needs}
 use Rattle.responses.proofs.reading.end.Statement.{statement}
 use Rattle.responses.proofs.reading.end.Tie as tie
 
-enum-told : tie.Need-enum-told
-enum-told c = search needs
-
-whole-requires : tie.Need-whole-requires
-whole-requires c κs = search needs
-
 returns : tie.Need-returns
 unfolding ended
 returns c = rw (c .before .before .enum-told .given .1, ← c .before .whole .ensures, c .if1 .taken)
-
-enum-told-2 : tie.Need-enum-told-2
-enum-told-2 c = search needs
-
-enum-told-3 : tie.Need-enum-told-3
-enum-told-3 c = search needs
-
-enum-told-4 : tie.Need-enum-told-4
-enum-told-4 c = search needs
-
-enum-told-5 : tie.Need-enum-told-5
-enum-told-5 c = search needs
-
-enum-told-6 : tie.Need-enum-told-6
-enum-told-6 c = search needs
-
-enum-told-7 : tie.Need-enum-told-7
-enum-told-7 c = search needs
-
-enum-told-8 : tie.Need-enum-told-8
-enum-told-8 c = search needs
-
-enum-told-9 : tie.Need-enum-told-9
-enum-told-9 c = search needs
-
-enum-known-line : tie.Need-enum-known-line
-enum-known-line c = search needs
 
 returns-2 : tie.Need-returns-2
 unfolding ended
@@ -86,18 +53,18 @@ pub end-spec : {M : Type 1} → statement M
 end-spec =
     tie.close
     (tie.spec
-    enum-told
-    whole-requires
+    (λ c. search needs)
+    (λ c κs. search needs)
     returns
-    enum-told-2
-    enum-told-3
-    enum-told-4
-    enum-told-5
-    enum-told-6
-    enum-told-7
-    enum-told-8
-    enum-told-9
-    enum-known-line
+    (λ c. search needs)
+    (λ c. search needs)
+    (λ c. search needs)
+    (λ c. search needs)
+    (λ c. search needs)
+    (λ c. search needs)
+    (λ c. search needs)
+    (λ c. search needs)
+    (λ c. search needs)
     returns-2
     returns-3
     returns-4

@@ -18,23 +18,8 @@ abbrev μ-loop : tie.MeasureT-loop
 loop-holds : tie.Need-loop-holds Inv-loop μ-loop
 loop-holds c = refl
 
-shared-slice-read-step : tie.Need-shared-slice-read-step Inv-loop μ-loop
-shared-slice-read-step c = search needs
-
-step-requires : tie.Need-step-requires Inv-loop μ-loop
-step-requires c κs = search needs
-
-add-at : tie.Need-add-at Inv-loop μ-loop
-add-at c = search needs
-
-telling-requires : tie.Need-telling-requires Inv-loop μ-loop
-telling-requires c κs = search needs
-
 returns : tie.Need-returns Inv-loop μ-loop
 returns c = let s = c .before .before .before in let l = s .before .before .before in feeds-tells (l .loop .here) (l .loop .at) (l .before .before .args .piece .now) {s = s .step .result} (s .before .before .loop-test .taken) (s .step .ensures) (sym (c .before .telling .ensures) ∙ c .if1 .taken) ∙ l .loop .inv
-
-loop-less : tie.Need-loop-less Inv-loop μ-loop
-loop-less c = search needs
 
 loop-again : tie.Need-loop-again Inv-loop μ-loop
 loop-again c = let s = c .before .before .before in let l = s .before .before .before in feeds-goes (l .loop .here) (l .loop .at) (l .before .before .args .piece .now) {s = s .step .result} (s .before .before .loop-test .taken) (s .step .ensures) (sym (c .before .telling .ensures) ∙ c .if1 .left) ∙ l .loop .inv
@@ -49,11 +34,11 @@ feed-spec =
     Inv-loop
     μ-loop
     loop-holds
-    shared-slice-read-step
-    step-requires
-    add-at
-    telling-requires
+    (λ c. search needs)
+    (λ c κs. search needs)
+    (λ c. search needs)
+    (λ c κs. search needs)
     returns
-    loop-less
+    (λ c. search needs)
     loop-again
     returns-2)

@@ -6,9 +6,6 @@ use borrow.Author.Needs.{needs}
 use Rattle.responses.proofs.reading.fields_after.Statement.{statement}
 use Rattle.responses.proofs.reading.fields_after.Tie as tie
 
-add-result : tie.Need-add-result
-add-result c = search needs
-
 returns : tie.Need-returns
 unfolding fieldsAfter
 returns c = simp (lt-ltb _ _ (c .if1 .taken))
@@ -18,4 +15,4 @@ unfolding fieldsAfter
 returns-2 c = simp (le-ltb _ _ (c .if1 .left))
 
 pub fields-after-spec : {M : Type 1} → statement M
-fields-after-spec = tie.close (tie.spec add-result returns returns-2)
+fields-after-spec = tie.close (tie.spec (λ c. search needs) returns returns-2)

@@ -6,15 +6,6 @@ use borrow.Author.Needs.{needs}
 use Rattle.responses.proofs.reading.refusal.Statement.{statement}
 use Rattle.responses.proofs.reading.refusal.Tie as tie
 
-start-requires : tie.Need-start-requires
-start-requires c κs = search needs
-
-absorb-requires : tie.Need-absorb-requires
-absorb-requires c κs = search needs
-
-end-requires : tie.Need-end-requires
-end-requires c κs = search needs
-
 returns : tie.Need-returns
 returns c =
     let file = c .before .before .before .before .args .file .now in
@@ -22,4 +13,4 @@ returns c =
     c .end .ensures ∙ ap endOf last ∙ reads file
 
 pub refusal-spec : {M : Type 1} → statement M
-refusal-spec = tie.close (tie.spec start-requires absorb-requires end-requires returns)
+refusal-spec = tie.close (tie.spec (λ c κs. search needs) (λ c κs. search needs) (λ c κs. search needs) returns)

@@ -5,54 +5,6 @@ use borrow.Author.Needs.{needs}
 use Rattle.responses.proofs.reading.settled.Statement.{statement}
 use Rattle.responses.proofs.reading.settled.Tie as tie
 
-enum-told : tie.Need-enum-told
-enum-told c = search needs
-
-after-line-requires : tie.Need-after-line-requires
-after-line-requires c κs = search needs
-
-enum-told-2 : tie.Need-enum-told-2
-enum-told-2 c = search needs
-
-after-line-requires-2 : tie.Need-after-line-requires-2
-after-line-requires-2 c κs = search needs
-
-enum-known-closed : tie.Need-enum-known-closed
-enum-known-closed c = search needs
-
-keep-requires : tie.Need-keep-requires
-keep-requires c κs = search needs
-
-fields-after-requires : tie.Need-fields-after-requires
-fields-after-requires c κs = search needs
-
-after-line-requires-3 : tie.Need-after-line-requires-3
-after-line-requires-3 c κs = search needs
-
-enum-told-3 : tie.Need-enum-told-3
-enum-told-3 c = search needs
-
-field-end-requires : tie.Need-field-end-requires
-field-end-requires c κs = search needs
-
-fields-after-requires-2 : tie.Need-fields-after-requires-2
-fields-after-requires-2 c κs = search needs
-
-after-line-requires-4 : tie.Need-after-line-requires-4
-after-line-requires-4 c κs = search needs
-
-enum-known-closed-2 : tie.Need-enum-known-closed-2
-enum-known-closed-2 c = search needs
-
-after-line-requires-5 : tie.Need-after-line-requires-5
-after-line-requires-5 c κs = search needs
-
-enum-known-closed-3 : tie.Need-enum-known-closed-3
-enum-known-closed-3 c = search needs
-
-after-line-requires-6 : tie.Need-after-line-requires-6
-after-line-requires-6 c κs = search needs
-
 returns : tie.Need-returns
 unfolding settled
 returns c = rw (c .before .enum-told .given .1) (c .after-line .ensures)
@@ -81,22 +33,22 @@ pub settled-spec : {M : Type 1} → statement M
 settled-spec =
     tie.close
     (tie.spec
-    enum-told
-    after-line-requires
-    enum-told-2
-    after-line-requires-2
-    enum-known-closed
-    keep-requires
-    fields-after-requires
-    after-line-requires-3
-    enum-told-3
-    field-end-requires
-    fields-after-requires-2
-    after-line-requires-4
-    enum-known-closed-2
-    after-line-requires-5
-    enum-known-closed-3
-    after-line-requires-6
+    (λ c. search needs)
+    (λ c κs. search needs)
+    (λ c. search needs)
+    (λ c κs. search needs)
+    (λ c. search needs)
+    (λ c κs. search needs)
+    (λ c κs. search needs)
+    (λ c κs. search needs)
+    (λ c. search needs)
+    (λ c κs. search needs)
+    (λ c κs. search needs)
+    (λ c κs. search needs)
+    (λ c. search needs)
+    (λ c κs. search needs)
+    (λ c. search needs)
+    (λ c κs. search needs)
     returns
     returns-2
     returns-3

@@ -6,24 +6,9 @@ use borrow.Author.Needs.{needs}
 use Rattle.responses.proofs.reading.step.Statement.{statement}
 use Rattle.responses.proofs.reading.step.Tie as tie
 
-close-requires : tie.Need-close-requires
-close-requires c κs = search needs
-
-settled-requires : tie.Need-settled-requires
-settled-requires c κs = search needs
-
 returns : tie.Need-returns
 unfolding stepped
 returns c = rw (eq-eqb _ _ (c .before .before .if1 .taken), ← c .before .close .ensures) (c .settled .ensures)
-
-handed-requires : tie.Need-handed-requires
-handed-requires c κs = search needs
-
-next-requires : tie.Need-next-requires
-next-requires c κs = search needs
-
-after-line-requires : tie.Need-after-line-requires
-after-line-requires c κs = search needs
 
 returns-2 : tie.Need-returns-2
 unfolding stepped
@@ -33,10 +18,10 @@ pub step-spec : {M : Type 1} → statement M
 step-spec =
     tie.close
     (tie.spec
-    close-requires
-    settled-requires
+    (λ c κs. search needs)
+    (λ c κs. search needs)
     returns
-    handed-requires
-    next-requires
-    after-line-requires
+    (λ c κs. search needs)
+    (λ c κs. search needs)
+    (λ c κs. search needs)
     returns-2)

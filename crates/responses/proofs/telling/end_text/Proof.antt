@@ -6,19 +6,13 @@ use borrow.Author.Needs.{needs}
 use Rattle.responses.proofs.telling.end_text.Statement.{statement}
 use Rattle.responses.proofs.telling.end_text.Tie as tie
 
-no-text-requires : tie.Need-no-text-requires
-no-text-requires c κs = search needs
-
 returns : tie.Need-returns
 unfolding endText
 returns c = rw (eq-eqb _ _ (c .before .if1 .taken)) (c .no-text .ensures)
-
-refused-text-requires : tie.Need-refused-text-requires
-refused-text-requires c κs = search needs
 
 returns-2 : tie.Need-returns-2
 unfolding endText
 returns-2 c = rw (ne-eqb _ _ (c .before .if1 .left)) (c .refused-text .ensures)
 
 pub end-text-spec : {M : Type 1} → statement M
-end-text-spec = tie.close (tie.spec no-text-requires returns refused-text-requires returns-2)
+end-text-spec = tie.close (tie.spec (λ c κs. search needs) returns (λ c κs. search needs) returns-2)

@@ -10,27 +10,6 @@ use borrow.Author.Needs.{needs}
 use Rattle.responses.proofs.telling.entry_text.Statement.{statement}
 use Rattle.responses.proofs.telling.entry_text.Tie as tie
 
-no-text-requires : tie.Need-no-text-requires
-no-text-requires c κs = search needs
-
-put-requires : tie.Need-put-requires
-put-requires c κs = search needs
-
-put-decimal-requires : tie.Need-put-decimal-requires
-put-decimal-requires c κs = search needs
-
-put-requires-2 : tie.Need-put-requires-2
-put-requires-2 c κs = search needs
-
-put-decimal-requires-2 : tie.Need-put-decimal-requires-2
-put-decimal-requires-2 c κs = search needs
-
-put-requires-3 : tie.Need-put-requires-3
-put-requires-3 c κs = search needs
-
-put-decimal-requires-3 : tie.Need-put-decimal-requires-3
-put-decimal-requires-3 c κs = search needs
-
 returns : tie.Need-returns
 unfolding entryText
 returns c =
@@ -55,11 +34,11 @@ pub entry-text-spec : {M : Type 1} → statement M
 entry-text-spec =
     tie.close
     (tie.spec
-    no-text-requires
-    put-requires
-    put-decimal-requires
-    put-requires-2
-    put-decimal-requires-2
-    put-requires-3
-    put-decimal-requires-3
+    (λ c κs. search needs)
+    (λ c κs. search needs)
+    (λ c κs. search needs)
+    (λ c κs. search needs)
+    (λ c κs. search needs)
+    (λ c κs. search needs)
+    (λ c κs. search needs)
     returns)

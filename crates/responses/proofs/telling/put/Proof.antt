@@ -14,15 +14,9 @@ returns-2 : tie.Need-returns-2
 unfolding put
 returns-2 c = rw (ne-eqb _ _ (c .before .if1 .left), lt-leb _ _ (c .if2 .taken))
 
-sub-at : tie.Need-sub-at
-sub-at c = search needs
-
-array-write-bytes : tie.Need-array-write-bytes
-array-write-bytes c = search needs
-
 returns-3 : tie.Need-returns-3
 unfolding put
 returns-3 c = rw (ne-eqb _ _ (c .before .before .if1 .left), le-leb _ _ (c .before .if2 .left))
 
 pub put-spec : {M : Type 1} → statement M
-put-spec = tie.close (tie.spec returns returns-2 sub-at array-write-bytes returns-3)
+put-spec = tie.close (tie.spec returns returns-2 (λ c. search needs) (λ c. search needs) returns-3)

@@ -16,24 +16,12 @@ abbrev μ-loop : tie.MeasureT-loop
 loop-holds : tie.Need-loop-holds Inv-loop μ-loop
 loop-holds c = refl
 
-last-digit-requires : tie.Need-last-digit-requires Inv-loop μ-loop
-last-digit-requires c κs = search needs
-
-put-requires : tie.Need-put-requires Inv-loop μ-loop
-put-requires c κs = search needs
-
 returns : tie.Need-returns Inv-loop μ-loop
 returns c =
     let p = c .before in
     let l = p .before .before .before in
     digits-stop (l .loop .left) (l .loop .rest) (l .loop .here) (p .put .ensures ∙ ap (put (l .loop .here)) (p .before .last-digit .ensures)) (l .loop .inv)
     (p .before .before .loop-test .taken) (c .if1 .taken)
-
-sub-left : tie.Need-sub-left Inv-loop μ-loop
-sub-left c = search needs
-
-loop-less : tie.Need-loop-less Inv-loop μ-loop
-loop-less c = search needs
 
 loop-again : tie.Need-loop-again Inv-loop μ-loop
 loop-again c =
@@ -52,10 +40,10 @@ put-decimal-spec =
     Inv-loop
     μ-loop
     loop-holds
-    last-digit-requires
-    put-requires
+    (λ c κs. search needs)
+    (λ c κs. search needs)
     returns
-    sub-left
-    loop-less
+    (λ c. search needs)
+    (λ c. search needs)
     loop-again
     returns-2)

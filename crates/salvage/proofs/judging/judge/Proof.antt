@@ -17,35 +17,11 @@ abbrev μ-loop : tie.MeasureT-loop
 loop-holds : tie.Need-loop-holds Inv-loop μ-loop
 loop-holds c = judges-none _ _ _
 
-block-at-requires : tie.Need-block-at-requires Inv-loop μ-loop
-block-at-requires c κs = search needs
-
-add-fault-of : tie.Need-add-fault-of Inv-loop μ-loop
-add-fault-of c = search needs
-
 cast-fault-of : tie.Need-cast-fault-of Inv-loop μ-loop
 cast-fault-of c = let begin = c .before .before .before .before .before in omega (arith, whole-says (begin .args .book .now) (begin .pre .is) .1)
 
-fault-of-requires : tie.Need-fault-of-requires Inv-loop μ-loop
-fault-of-requires c κs = search needs
-
 cast-list : tie.Need-cast-list Inv-loop μ-loop
 cast-list c = omega (arith, c .fault-of .ensures, fault-lt (c .before .before .before .loop .b + 1) (c .before .before .before .loop .before) (c .before .block-at .result .now))
-
-slice-write-list : tie.Need-slice-write-list Inv-loop μ-loop
-slice-write-list c = search needs
-
-head-of-requires : tie.Need-head-of-requires Inv-loop μ-loop
-head-of-requires c κs = search needs
-
-later-requires : tie.Need-later-requires Inv-loop μ-loop
-later-requires c κs = search needs
-
-add-b : tie.Need-add-b Inv-loop μ-loop
-add-b c = search needs
-
-loop-less : tie.Need-loop-less Inv-loop μ-loop
-loop-less c = search needs
 
 loop-again : tie.Need-loop-again Inv-loop μ-loop
 loop-again c =
@@ -67,16 +43,16 @@ judge-spec =
     Inv-loop
     μ-loop
     loop-holds
-    block-at-requires
-    add-fault-of
+    (λ c κs. search needs)
+    (λ c. search needs)
     cast-fault-of
-    fault-of-requires
+    (λ c κs. search needs)
     cast-list
-    slice-write-list
-    head-of-requires
-    later-requires
-    add-b
-    loop-less
+    (λ c. search needs)
+    (λ c κs. search needs)
+    (λ c κs. search needs)
+    (λ c. search needs)
+    (λ c. search needs)
     loop-again
     same-length
     returns)

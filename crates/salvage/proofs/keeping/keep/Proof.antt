@@ -26,12 +26,6 @@ keep-block-requires c κs =
     let at = c .before .before .before in
     keep-asks (at .before .before .before .before .pre) (at .loop .inv) (omega arith) refl refl
 
-add-b : tie.Need-add-b Inv-loop μ-loop
-add-b c = search needs
-
-loop-less : tie.Need-loop-less Inv-loop μ-loop
-loop-less c = search needs
-
 loop-again : tie.Need-loop-again Inv-loop μ-loop
 loop-again c =
     let called = c .before .before in
@@ -53,8 +47,8 @@ keep-spec =
     loop-holds
     shared-slice-read-keep-block
     keep-block-requires
-    add-b
-    loop-less
+    (λ c. search needs)
+    (λ c. search needs)
     loop-again
     same-length
     returns)

@@ -18,38 +18,17 @@ abbrev μ-loop : tie.MeasureT-loop
 loop-holds : tie.Need-loop-holds Inv-loop μ-loop
 loop-holds c = listing-none
 
-block-at-requires : tie.Need-block-at-requires Inv-loop μ-loop
-block-at-requires c κs = search needs
-
-head-of-requires : tie.Need-head-of-requires Inv-loop μ-loop
-head-of-requires c κs = search needs
-
-cast-e : tie.Need-cast-e Inv-loop μ-loop
-cast-e c = search needs
-
 slice-read-number-in : tie.Need-slice-read-number-in Inv-loop μ-loop
 slice-read-number-in c =
     let at = c .before .before .before .before .before in
     let begin = at .before .before .before .before in
     omega (arith, at .loop .inv .so-far .long, ap length (begin .pre .0 .holds), length-faults-of (begin .args .book .now))
 
-shared-slice-read-number-in : tie.Need-shared-slice-read-number-in Inv-loop μ-loop
-shared-slice-read-number-in c = search needs
-
-number-in-requires : tie.Need-number-in-requires Inv-loop μ-loop
-number-in-requires c κs = search needs
-
 slice-write-list : tie.Need-slice-write-list Inv-loop μ-loop
 slice-write-list c =
     let at = c .before .before .before .before .before .before .before in
     let begin = at .before .before .before .before in
     omega (arith, at .loop .inv .so-far .long, ap length (begin .pre .0 .holds), length-faults-of (begin .args .book .now))
-
-add-b : tie.Need-add-b Inv-loop μ-loop
-add-b c = search needs
-
-loop-less : tie.Need-loop-less Inv-loop μ-loop
-loop-less c = search needs
 
 loop-again : tie.Need-loop-again Inv-loop μ-loop
 loop-again c =
@@ -72,15 +51,15 @@ list-spoiled-spec =
     Inv-loop
     μ-loop
     loop-holds
-    block-at-requires
-    head-of-requires
-    cast-e
+    (λ c κs. search needs)
+    (λ c κs. search needs)
+    (λ c. search needs)
     slice-read-number-in
-    shared-slice-read-number-in
-    number-in-requires
+    (λ c. search needs)
+    (λ c κs. search needs)
     slice-write-list
-    add-b
-    loop-less
+    (λ c. search needs)
+    (λ c. search needs)
     loop-again
     same-length
     returns)

@@ -21,23 +21,8 @@ loop-holds c = marking-none (c .before .before .before .pre)
 shared-slice-read-fault : tie.Need-shared-slice-read-fault Inv-loop μ-loop
 shared-slice-read-fault c = let begin = c .before .before .before .before .before .before in omega (arith, ap length (begin .pre .holds), length-faults-of (begin .args .book .now))
 
-block-at-requires : tie.Need-block-at-requires Inv-loop μ-loop
-block-at-requires c κs = search needs
-
-head-of-requires : tie.Need-head-of-requires Inv-loop μ-loop
-head-of-requires c κs = search needs
-
 mark-block-requires : tie.Need-mark-block-requires Inv-loop μ-loop
 mark-block-requires c κs = c .before .before .before .before .before .loop .inv .long
-
-later-requires : tie.Need-later-requires Inv-loop μ-loop
-later-requires c κs = search needs
-
-add-b : tie.Need-add-b Inv-loop μ-loop
-add-b c = search needs
-
-loop-less : tie.Need-loop-less Inv-loop μ-loop
-loop-less c = search needs
 
 loop-again : tie.Need-loop-again Inv-loop μ-loop
 loop-again c =
@@ -62,12 +47,12 @@ mark-all-spec =
     μ-loop
     loop-holds
     shared-slice-read-fault
-    block-at-requires
-    head-of-requires
+    (λ c κs. search needs)
+    (λ c κs. search needs)
     mark-block-requires
-    later-requires
-    add-b
-    loop-less
+    (λ c κs. search needs)
+    (λ c. search needs)
+    (λ c. search needs)
     loop-again
     same-length
     returns)

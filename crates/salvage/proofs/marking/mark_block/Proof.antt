@@ -5,21 +5,6 @@ use borrow.Author.Needs.{needs}
 use Rattle.salvage.proofs.marking.mark_block.Statement.{statement}
 use Rattle.salvage.proofs.marking.mark_block.Tie as tie
 
-spoils-own-requires : tie.Need-spoils-own-requires
-spoils-own-requires c κs = search needs
-
-mark-requires : tie.Need-mark-requires
-mark-requires c κs = search needs
-
-spoils-before-requires : tie.Need-spoils-before-requires
-spoils-before-requires c κs = search needs
-
-mark-requires-2 : tie.Need-mark-requires-2
-mark-requires-2 c κs = search needs
-
-same-length : tie.Need-same-length
-same-length c = search needs
-
 returns : tie.Need-returns
 returns c =
     let second = c .before .before in
@@ -31,9 +16,9 @@ pub mark-block-spec : {M : Type 1} → statement M
 mark-block-spec =
     tie.close
     (tie.spec
-    spoils-own-requires
-    mark-requires
-    spoils-before-requires
-    mark-requires-2
-    same-length
+    (λ c κs. search needs)
+    (λ c κs. search needs)
+    (λ c κs. search needs)
+    (λ c κs. search needs)
+    (λ c. search needs)
     returns)
