@@ -44,10 +44,10 @@ pub inverse-range-test : T (every 16 (λ a. ltb (inverse a) 16))
 unfolding inverse mul times
 inverse-range-test = tt
 
--- the fourteenth power is the inverse: a² · (a⁴ · a⁸)
-pub fourteen-test : T (every 16 (λ a. eqb (mul (mul a a) (mul (mul (mul a a) (mul a a)) (mul (mul (mul a a) (mul a a)) (mul (mul a a) (mul a a))))) (inverse a)))
-unfolding inverse mul times
-fourteen-test = tt
+-- the one finite fact about powers: the fifteenth of what is not 0 is 1
+pub fifteen-test : T (every 16 (λ a. pick (eqb a 0) true (eqb (power a 15) 1)))
+unfolding power mul times
+fifteen-test = tt
 
 pub twice-test : T (every 16 (λ a. eqb (bitXor (a * 2 % 16) (a / 8 * 3)) (mul 2 a)))
 unfolding mul times

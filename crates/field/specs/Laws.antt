@@ -16,7 +16,7 @@ use Rattle.ground.specs.Pick.{pick}
 use Rattle.ground.specs.Tests.{every, below, below2, below3}
 use Rattle.field.specs.Field.{add, times, mul, inverse, inverseBelow, chosenOf}
 use Rattle.field.specs.Checked.{comm-test, assoc-test, distrib-test, range-test, one-test, zero-test}
-use Rattle.field.specs.Checked.{inverse-test, inverse-range-test, fourteen-test, twice-test, chosen-test}
+use Rattle.field.specs.Checked.{inverse-test, inverse-range-test, twice-test, chosen-test}
 
 -- ---- sums
 
@@ -166,15 +166,6 @@ below-mod (suc n) a = ap₂ (λ x y. pick (eqb x 1) n y) (mul-mod-left a n) (bel
 pub inverse-mod : (a : ℕ) → inverse (a % 16) ≡ inverse a
 unfolding inverse
 inverse-mod a = below-mod 16 a
-
-fourteen : (x : ℕ) → x < 16 → mul (mul x x) (mul (mul (mul x x) (mul x x)) (mul (mul (mul x x) (mul x x)) (mul (mul x x) (mul x x)))) ≡ inverse x
-fourteen x h =
-    eqb→eq _ _
-    (below 16 (λ y. eqb (mul (mul y y) (mul (mul (mul y y) (mul y y)) (mul (mul (mul y y) (mul y y)) (mul (mul y y) (mul y y))))) (inverse y)) fourteen-test x h)
-
--- a to the fourteenth, as a² · (a⁴ · a⁸)
-pub inverse-power : (a a2 a4 a8 : ℕ) → a2 ≡ mul a a → a4 ≡ mul a2 a2 → a8 ≡ mul a4 a4 → mul a2 (mul a4 a8) ≡ inverse a
-inverse-power a a2 a4 a8 e2 e4 e8 = cc (fourteen (a % 16) (digit a), mul-mod-left a (a % 16), mul-mod-right a a, inverse-mod a)
 
 -- ---- the product as the code forms it: the multiples of s by 1, x, x², x³, those chosen that b has
 

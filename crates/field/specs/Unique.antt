@@ -3,7 +3,7 @@
 use mathlib.Core.Path.{_≡_}
 use Prim.Native.Nat.{ℕ}
 use Rattle.ground.specs.Outcome.{unique-equation}
-use Rattle.field.specs.Field.{add, mul, inverse, chosenOf}
+use Rattle.field.specs.Field.{add, mul, inverse, power, chosenOf}
 
 pub unique-add : (a b : ℕ) {r r′ : ℕ} → r ≡ add a b → r′ ≡ add a b → r ≡ r′
 unique-add a b = unique-equation
@@ -19,3 +19,6 @@ unique-mul a b = unique-equation
 
 pub unique-inverse : (a : ℕ) {r r′ : ℕ} → r ≡ inverse a → r′ ≡ inverse a → r ≡ r′
 unique-inverse a = unique-equation
+
+pub unique-power : (a k : ℕ) {r r′ : ℕ} → r ≡ power a k → r′ ≡ power a k → r ≡ r′
+unique-power a k = unique-equation

@@ -2,7 +2,7 @@
 // No table: a `const` array is copied at each look-up, and this arithmetic is vectorised where it stands in a loop.
 ghost use mathlib.Core.Path.{_≡_};
 ghost use Prim.Native.Nat.{_*_, _%_};
-ghost use Rattle.field.specs.Field.{add as sum, mul as product, inverse as inverseOf, chosenOf};
+ghost use Rattle.field.specs.Field.{add as sum, mul as product, inverse as inverseOf, power as powerOf, chosenOf};
 
 // a + b: exclusive or.
 pub fn add(a: u8, b: u8) -> u8
@@ -44,12 +44,24 @@ pub fn mul(a: u8, b: u8) -> u8
     chosen(a1, a2, a4, a8, b)
 }
 
+// a to the k, by halves: the square of the power at k / 2, times a where k is odd.
+pub fn power(a: u8, k: u8) -> u8
+    ensures { λ r. ⌜ r ≡ powerOf a k ⌝ }
+{
+    if k == 0 {
+        return 1;
+    }
+    let half = power(a, k / 2);
+    let square = mul(half, half);
+    if k % 2 == 1 {
+        return mul(square, a);
+    }
+    square
+}
+
 // The element whose product with a is 1; 0 for 0. It is the fourteenth power.
 pub fn inverse(a: u8) -> u8
     ensures { λ r. ⌜ r ≡ inverseOf a ⌝ }
 {
-    let a2 = mul(a, a);
-    let a4 = mul(a2, a2);
-    let a8 = mul(a4, a4);
-    mul(a2, mul(a4, a8))
+    power(a, 14)
 }
