@@ -1,5 +1,6 @@
 //! The command `snova`: answers, exit statuses, messages, and what it writes.
 
+use snova_host::books::model::{self, Head};
 use snova_host::hex;
 use std::path::PathBuf;
 use std::process::{Command, Stdio};
@@ -57,7 +58,7 @@ fn done(line: &str) -> String {
 fn help_for_the_tool_and_for_each_subcommand() {
     let overview = done("--help");
     assert_eq!(done("help"), overview);
-    for name in ["sizes", "keygen", "sign", "verify", "salt", "streams", "kat", "bench"] {
+    for name in ["sizes", "keygen", "sign", "verify", "salt", "streams", "kat", "book", "bench"] {
         assert!(overview.contains(&format!("\n  {name} ")), "{name}");
         let help = done(&format!("{name} --help"));
         assert!(help.starts_with(&format!("snova {name}: ")), "{name}");
@@ -274,6 +275,48 @@ fn response_files_are_written_and_checked() {
     refused("kat check {}/broken.rsp", 31, &["line 2: refused with 31", "odd count"]);
     std::fs::write(folder().join("short.rsp"), "count = 0\nseed = 00\n").expect("a file");
     refused("kat check {}/short.rsp", 33, &["at the end: refused with 33"]);
+}
+
+#[test]
+fn books_are_written_read_and_salvaged() {
+    let header = "exercise  kind            size     block\n";
+    let first = "       3  public           600         0\n";
+    let rest =
+        "       3  key                5         2\n       4  target             1         3\n";
+    let fields = "3,public=zeros:600 3,key=hex:0102030405 4,5=hex:FF";
+    let table = done(&format!("book write {fields} --out {{}}/book"));
+    assert_eq!(table, format!("{header}{first}{rest}"));
+    assert_eq!(done("book read --book {}/book"), table);
+    let json = "{\"fields\":[{\"exercise\":3,\"kind\":\"public\",\"size\":600,\"block\":0},";
+    assert!(done("book read --book {}/book --json").starts_with(json));
+    refused("book write 4,key=hex:01 3,key=hex:01 --out {}/none", 45, &["45"]);
+    assert!(!folder().join("none").exists());
+
+    // one word of exercise 3 altered: the reader refuses, salvage keeps exercise 4
+    let mut book = std::fs::read(folder().join("book")).expect("the book");
+    book[100] ^= 1;
+    std::fs::write(folder().join("bad"), &book).expect("a file");
+    refused("book read --book {}/bad", 41, &["41"]);
+    done("book salvage --book {}/bad --out {}/kept");
+    assert_eq!(
+        done("book read --book {}/kept"),
+        format!("{header}       4  target             1         0\n")
+    );
+}
+
+/// The reader takes a short part in the middle of a field: the next field begins where its part 0 stands.
+#[test]
+fn the_table_of_a_book_with_a_short_part() {
+    let head = |exercise, part| Head { exercise, kind: 1, part };
+    let blocks = [
+        model::block(head(1, 0), &[7; 3], 1),
+        model::block(head(1, 1), &[8; 4], 2),
+        model::block(head(2, 0), &[9; 5], 3),
+    ];
+    std::fs::write(folder().join("short"), blocks.concat()).expect("a file");
+    let table = done("book read --book {}/short");
+    assert!(table.contains("       1  public             7         0\n"), "{table}");
+    assert!(table.contains("       2  public             5         2\n"), "{table}");
 }
 
 #[test]

@@ -56,7 +56,7 @@ fn write(args: &Args, words: &[String]) -> Result<Answer, Failure> {
         answer => return Err(refused(answer)),
     }
     write_file("--out", path, &book)?;
-    print(&fields_table(args, &fields))?;
+    print(&fields_table(args, &fields, &book))?;
     Ok(Answer::DONE)
 }
 
@@ -80,20 +80,18 @@ fn read(args: &Args) -> Result<Answer, Failure> {
         answer => return Err(refused(answer)),
     }
     let fields = model::read(&book).map_err(|number| refused(Answer(number)))?;
-    print(&fields_table(args, &fields))?;
+    print(&fields_table(args, &fields, &book))?;
     Ok(Answer::DONE)
 }
 
-/// One line for each field: exercise, kind, size, and the block at which it begins.
-fn fields_table(args: &Args, fields: &[Field]) -> String {
-    let mut block = 0;
+/// One line for each field: exercise, kind, size, and the block at which it begins, which is where a part 0 stands (a part in the middle may be short).
+fn fields_table(args: &Args, fields: &[Field], book: &[u8]) -> String {
+    let heads = book.chunks(BLOCK).map(model::head).enumerate();
+    let begins = heads.filter(|(_, head)| head.part == 0).map(|(block, _)| block);
     let rows: Vec<(u16, &str, usize, usize)> = fields
         .iter()
-        .map(|field| {
-            let row = (field.exercise, kind_name(field.kind), field.payload.len(), block);
-            block += field.payload.len().div_ceil(500);
-            row
-        })
+        .zip(begins)
+        .map(|(field, block)| (field.exercise, kind_name(field.kind), field.payload.len(), block))
         .collect();
     if args.flag("--json") {
         let rows: Vec<String> = rows
