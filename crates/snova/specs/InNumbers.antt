@@ -15,9 +15,9 @@ use Rattle.scheme.specs.Oil.{Redo}
 use Rattle.verdict.specs.Promise.{numberOf as verdictNumber}
 use Rattle.scheme.specs.Refusals.{signRefusals}
 use Rattle.signing.specs.Signs.{Signs}
-use Rattle.snova.specs.Answered.{Answered, sign-done}
-use Rattle.snova.specs.Accepted.{answer-zero}
-use Rattle.snova.specs.Sentences.{EveryEntryEqual, sentence-1, sentence-2, sentence-3}
+use Rattle.model.specs.Answered.{Answered, sign-done}
+use Rattle.model.specs.Accepted.{answer-zero}
+use Rattle.model.specs.Sentences.{EveryEntryEqual, sentence-1, sentence-2, sentence-3}
 use Rattle.snova.specs.Interface.{Numbered, Keygen, Sign, Verify}
 
 -- the first sentence: what it says of every answer's number it says of the number returned

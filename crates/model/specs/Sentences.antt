@@ -57,8 +57,8 @@ use Rattle.signing.specs.Signs.{numberOf as signNumber}
 use Rattle.signing.specs.Unique.{redo-exactly}
 use Rattle.verdict.specs.Promise.{Verifies}
 use Rattle.salt.specs.Salt.{saltRefusal, saltOf, SaltStatus, salt-empty}
-use Rattle.snova.specs.Answered.{Answered, writes-answered, status-answered, value-answered, verdict-answered, sign-answered, sign-wiped, sign-kept, sign-done, sign-redo}
-use Rattle.snova.specs.Accepted.{answer-zero, written-zero, verdict-zero, emitted-verdict}
+use Rattle.model.specs.Answered.{Answered, writes-answered, status-answered, value-answered, verdict-answered, sign-answered, sign-wiped, sign-kept, sign-done, sign-redo}
+use Rattle.model.specs.Accepted.{answer-zero, written-zero, verdict-zero, emitted-verdict}
 
 -- 1. Every call is answered by one of the page's numbers. A refusal is given exactly where it is the first in the operation's order that applies, and leaves every
 -- buffer as it was: `Answered` says so. After 0 and 2 of signing the work area is all zero, and 2 leaves the output as it was. 0 leaves the whole output written.

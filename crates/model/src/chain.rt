@@ -1,6 +1,6 @@
 // The three operations called one after the other, as the third sentence tells them: what signing emits is accepted under the key that was generated.
 ghost use mathlib.Core.Path.{_≡_};
-ghost use Rattle.snova.specs.Chain.{outcomeOf, SignsAndVerifies};
+ghost use Rattle.model.specs.Chain.{outcomeOf, SignsAndVerifies};
 use crate::Outcome;
 use ground::Answer;
 use sets::Set;

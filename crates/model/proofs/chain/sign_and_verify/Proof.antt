@@ -1,9 +1,9 @@
--- `snova::sign_and_verify` meets its contract: each return is one way that the calls can go, by what the callees ensure.
+-- `model::sign_and_verify` meets its contract: each return is one way that the calls can go, by what the callees ensure.
 -- Rests on Ways; a signature that was emitted is accepted, so the last return is never not accepted.
 -- The lengths of what is lent are as the calls kept them (`kept`), and an arm of a match says which variant it is for (`keys`).
-use Rattle.snova.specs.Ways.{way-key-refused, way-sign-refused, way-redo, way-accepted}
-use Rattle.snova.proofs.chain.sign_and_verify.Statement.{statement}
-use Rattle.snova.proofs.chain.sign_and_verify.Tie as tie
+use Rattle.model.specs.Ways.{way-key-refused, way-sign-refused, way-redo, way-accepted}
+use Rattle.model.proofs.chain.sign_and_verify.Statement.{statement}
+use Rattle.model.proofs.chain.sign_and_verify.Tie as tie
 
 enum-told : tie.Need-enum-told
 enum-told c = c .match .keys1

@@ -10,8 +10,8 @@ use Rattle.verdict.specs.declared.Verdict.the-variants as Verdicts
 use Rattle.signing.specs.declared.Signing.the-variants as Signings
 use Rattle.signing.specs.Signs.{Signs}
 use Rattle.verdict.specs.Promise.{Verifies}
-use Rattle.snova.specs.declared.Outcome.{Outcome}
-use Rattle.snova.specs.declared.Outcome.the-variants.{Accepted, NotAccepted, Redo, Refused}
+use Rattle.model.specs.declared.Outcome.{Outcome}
+use Rattle.model.specs.declared.Outcome.the-variants.{Accepted, NotAccepted, Redo, Refused}
 
 -- a verdict as an outcome
 abbrev pub outcomeOf : Verdict → Outcome

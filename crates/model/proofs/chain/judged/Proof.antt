@@ -1,9 +1,9 @@
--- `snova::judged` meets its contract: each arm is one case of `outcomeOf`.
+-- `model::judged` meets its contract: each arm is one case of `outcomeOf`.
 use mathlib.Core.Path.{sym, ap}
-use Rattle.snova.specs.Chain.{outcomeOf}
+use Rattle.model.specs.Chain.{outcomeOf}
 use borrow.Author.Needs.{needs}
-use Rattle.snova.proofs.chain.judged.Statement.{statement}
-use Rattle.snova.proofs.chain.judged.Tie as tie
+use Rattle.model.proofs.chain.judged.Statement.{statement}
+use Rattle.model.proofs.chain.judged.Tie as tie
 
 returns-3 : tie.Need-returns-3
 returns-3 c = sym (ap outcomeOf (c .before .verdict .given .1))

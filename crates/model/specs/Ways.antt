@@ -14,10 +14,10 @@ use Rattle.signing.specs.declared.Signing.{Signing}
 use Rattle.signing.specs.declared.Signing.the-variants as Signings
 use Rattle.signing.specs.Signs.{Signs}
 use Rattle.verdict.specs.Promise.{Verifies}
-use Rattle.snova.specs.Accepted.{written-zero, emitted-verdict}
-use Rattle.snova.specs.declared.Outcome.{Outcome}
-use Rattle.snova.specs.declared.Outcome.the-variants.{Redo, Refused}
-use Rattle.snova.specs.Chain.{SignsAndVerifies, key-refused, sign-refused, redo, accepted, outcomeOf}
+use Rattle.model.specs.Accepted.{written-zero, emitted-verdict}
+use Rattle.model.specs.declared.Outcome.{Outcome}
+use Rattle.model.specs.declared.Outcome.the-variants.{Redo, Refused}
+use Rattle.model.specs.Chain.{SignsAndVerifies, key-refused, sign-refused, redo, accepted, outcomeOf}
 
 module _ {set : Set} {public abq private vinegar target salt work key output : List ℕ} {g : Answer} {key′ : List ℕ} (generated : Generates set public private key g key′) where
   -- key generation's refusal, handed up
