@@ -4,6 +4,15 @@
 #![allow(unsafe_code)]
 
 unsafe extern "C" {
+    pub fn snova_public_bytes(v: usize, o: usize, l: usize) -> usize;
+    pub fn snova_abq_bytes(v: usize, o: usize, l: usize) -> usize;
+    pub fn snova_private_bytes(v: usize, o: usize, l: usize) -> usize;
+    pub fn snova_vinegar_bytes(v: usize, o: usize, l: usize) -> usize;
+    pub fn snova_target_bytes(v: usize, o: usize, l: usize) -> usize;
+    pub fn snova_key_bytes(v: usize, o: usize, l: usize) -> usize;
+    pub fn snova_signature_bytes(v: usize, o: usize, l: usize) -> usize;
+    pub fn snova_work_bytes(v: usize, o: usize, l: usize) -> usize;
+
     pub fn snova_keygen(
         v: usize,
         o: usize,

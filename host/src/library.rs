@@ -8,7 +8,27 @@
 use crate::answer::Answer;
 use crate::ffi;
 use crate::lent::{KeyStreams, SigningStreams, VerdictStreams};
-use crate::set::{SALT, Set};
+use crate::set::{Lengths, SALT, Set};
+
+/// The exact lengths of every buffer of a set, by the library's own functions; none of a set that
+/// is refused.
+pub fn lengths(set: Set) -> Option<Lengths> {
+    let Set { v, o, l } = set;
+    // SAFETY: the functions take three numbers, and any three are answered.
+    let exact = unsafe {
+        Lengths {
+            public: ffi::snova_public_bytes(v, o, l),
+            abq: ffi::snova_abq_bytes(v, o, l),
+            private: ffi::snova_private_bytes(v, o, l),
+            vinegar: ffi::snova_vinegar_bytes(v, o, l),
+            target: ffi::snova_target_bytes(v, o, l),
+            key: ffi::snova_key_bytes(v, o, l),
+            signature: ffi::snova_signature_bytes(v, o, l),
+            work: ffi::snova_work_bytes(v, o, l),
+        }
+    };
+    (exact.public > 0).then_some(exact)
+}
 
 /// Key generation: writes P22 into `key`.
 pub fn keygen(set: Set, streams: &KeyStreams, key: &mut [u8]) -> Answer {
