@@ -31,6 +31,9 @@ impl Answer {
     pub const FIELD: Answer = Answer(33);
     pub const LARGE_NUMBER: Answer = Answer(34);
 
+    /// What `meaning` says of a number that no page has.
+    pub const UNKNOWN: &str = "no number of the pages";
+
     pub fn number(self) -> u32 {
         self.0
     }
@@ -72,7 +75,7 @@ impl Answer {
             44 => "good, but its exercise is spoiled",
             45 => "an empty field, a kind outside 1 to 7 or a wrong order",
             46 => "too many blocks",
-            _ => "no number of the pages",
+            _ => Answer::UNKNOWN,
         }
     }
 }

@@ -2,6 +2,7 @@
 //! the arguments of `src/ffi.rs`; `examples/caller.c` is compiled as C and as C++ with every warning
 //! an error, and prints what `examples/caller.rs` prints; the length functions are page 01's.
 
+use snova_host::answer::Answer;
 use snova_host::library;
 use snova_host::set::Set;
 use std::collections::BTreeMap;
@@ -121,9 +122,8 @@ fn the_header_has_every_number() {
         .collect();
     numbers.sort();
     numbers.dedup();
-    let known: Vec<u32> = (0..100)
-        .filter(|number| snova_host::answer::Answer(*number).meaning() != "no number of the pages")
-        .collect();
+    let known: Vec<u32> =
+        (0..100).filter(|number| Answer(*number).meaning() != Answer::UNKNOWN).collect();
     assert_eq!(numbers, known);
 }
 

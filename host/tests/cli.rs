@@ -5,6 +5,25 @@ use snova_host::hex;
 use std::path::PathBuf;
 use std::process::{Command, Stdio};
 
+/// Every subcommand, in the order of `snova --help`.
+const SUBCOMMANDS: [&str; 15] = [
+    "sizes",
+    "keypair",
+    "keygen",
+    "sign",
+    "verify",
+    "salt",
+    "streams",
+    "pack",
+    "unpack",
+    "facts",
+    "kat",
+    "book",
+    "bench",
+    "manual",
+    "completions",
+];
+
 struct Ran {
     status: i32,
     out: String,
@@ -58,12 +77,14 @@ fn done(line: &str) -> String {
 fn help_for_the_tool_and_for_each_subcommand() {
     let overview = done("--help");
     assert_eq!(done("help"), overview);
-    for name in ["sizes", "keygen", "sign", "verify", "salt", "streams", "kat", "book", "bench"] {
+    for name in SUBCOMMANDS {
         assert!(overview.contains(&format!("\n  {name} ")), "{name}");
         let help = done(&format!("{name} --help"));
         assert!(help.starts_with(&format!("snova {name}: ")), "{name}");
-        assert!(help.contains(&format!("usage:\n  snova {name} ")), "{name}");
+        assert!(help.contains(&format!("usage:\n  snova {name}")), "{name}");
     }
+    let listed = overview.lines().filter(|line| line.starts_with("  ")).count();
+    assert_eq!(listed, SUBCOMMANDS.len());
     let ran = snova("");
     assert_eq!((ran.status, ran.out.as_str(), ran.err.as_str()), (64, "", &overview[..]));
 }
@@ -258,7 +279,7 @@ fn a_salt_is_chosen_where_none_is_given() {
 #[test]
 fn response_files_are_written_and_checked() {
     let file = "{}/PQCsignKAT_48_SNOVA_24_5_4_SSK.rsp";
-    let written = done("kat write 24,5,4 --dir {} --count 2");
+    let written = done("kat write 24,5,4 --dir {} --count 2 --force");
     assert!(written.contains("PQCsignKAT_48_SNOVA_24_5_4_SSK.rsp: 2 entries"), "{written}");
     let checked = done(&format!("kat check {file}"));
     assert!(checked.contains("SNOVA_24_5_4_SSK: 2 entries agree"), "{checked}");

@@ -161,3 +161,22 @@ fn the_generator_gives_the_seeds_and_messages_of_every_response_file() {
         assert_eq!(hex::encode(&bytes), message);
     }
 }
+
+/// Twenty megabytes are hashed, and as many expanded, in well under a second each where the code is
+/// optimized: by lanes and by columns, not byte by byte.
+#[test]
+fn twenty_megabytes_take_no_time() {
+    let input = vec![0x5A; 20_000_000];
+    let start = std::time::Instant::now();
+    let digest = Shake256::hash(&[&input], 64);
+    let hashed = start.elapsed();
+    assert_eq!(digest.len(), 64);
+    let start = std::time::Instant::now();
+    let stream = Aes::new_128(&[7; 16]).counter_stream(20_000_000);
+    let expanded = start.elapsed();
+    assert_eq!(stream.len(), 20_000_000);
+    println!("SHAKE256 {hashed:?}, AES128-CTR {expanded:?}");
+    if !cfg!(debug_assertions) {
+        assert!(hashed.as_millis() < 900 && expanded.as_millis() < 900, "{hashed:?} {expanded:?}");
+    }
+}

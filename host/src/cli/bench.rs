@@ -8,6 +8,7 @@ use crate::answer::Answer;
 use crate::bench::{self, Bench, Line, Operation};
 use crate::engine::Engine;
 use crate::set::{ROUND_2, Set};
+use std::ffi::OsString;
 use std::time::Instant;
 
 pub const COMMAND: Command = Command {
@@ -59,13 +60,16 @@ fn table(args: &Args, sets: &[Set]) -> Result<Answer, Failure> {
     Ok(Answer::DONE)
 }
 
-fn one(args: &Args, words: &[String]) -> Result<Answer, Failure> {
+fn one(args: &Args, words: &[OsString]) -> Result<Answer, Failure> {
     let [set, operation, iterations] = words else {
         return Err(Failure::usage("after 'one' stand SET, OPERATION and ITERATIONS"));
     };
     let set = read_set(set)?;
-    let operation: Operation =
-        operation.parse().map_err(|reason| Failure::usage(format!("OPERATION {reason}")))?;
+    let operation: Operation = operation
+        .to_string_lossy()
+        .parse()
+        .map_err(|reason| Failure::usage(format!("OPERATION {reason}")))?;
+    let iterations = iterations.to_string_lossy();
     let iterations: u32 = iterations
         .parse()
         .map_err(|_| Failure::usage(format!("ITERATIONS '{iterations}' is no number")))?;

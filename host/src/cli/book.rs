@@ -2,13 +2,15 @@
 //!
 //! The proved library decides; the table of fields is told by the plain model, which agrees with it.
 
-use super::args::{Args, Command, opt};
+use super::args::{Args, Command, JSON, opt};
 use super::failure::Failure;
 use super::inputs;
-use super::output::{print, write_file};
+use super::output::{Mode, print, same, tell, write_file};
 use crate::answer::Answer;
 use crate::books::model::{self, Field};
 use crate::books::{self, BLOCK};
+use std::ffi::{OsStr, OsString};
+use std::os::unix::ffi::OsStrExt;
 
 pub const COMMAND: Command = Command {
     name: "book",
@@ -22,7 +24,7 @@ pub const COMMAND: Command = Command {
     options: &[
         opt("--book", "BYTES", "the book"),
         opt("--out", "FILE", "where the book is written"),
-        opt("--json", "", "print the table as JSON"),
+        JSON,
     ],
     run,
 };
@@ -38,13 +40,32 @@ fn run(args: &Args) -> Result<Answer, Failure> {
     }
 }
 
+/// The most bytes of a book, 65,536 blocks, and of one field of it.
+const MOST_BOOK: usize = 65_536 * BLOCK;
+const MOST_PAYLOAD: usize = 65_536 * 500;
+
+/// Whether a field is private material: the private and the vinegar stream.
+fn is_private(kind: u8) -> bool {
+    kind == 3 || kind == 4
+}
+
+/// The table, on standard error where the book itself goes to standard output.
+fn told(path: &OsStr, table: &str) -> Result<(), Failure> {
+    if path == "-" {
+        tell(table.trim_end());
+        return Ok(());
+    }
+    print(table)
+}
+
 fn refused(answer: Answer) -> Failure {
     Failure { status: answer.number() as i32, text: format!("refused with {answer}") }
 }
 
-fn write(args: &Args, words: &[String]) -> Result<Answer, Failure> {
+fn write(args: &Args, words: &[OsString]) -> Result<Answer, Failure> {
     let path = args.required("--out")?;
-    let fields: Vec<Field> = words.iter().map(|word| field(word)).collect::<Result<_, _>>()?;
+    let fields: Vec<Field> =
+        words.iter().map(|word| field(word, path)).collect::<Result<_, _>>()?;
     let exercises: Vec<u16> = fields.iter().map(|field| field.exercise).collect();
     let kinds: Vec<u8> = fields.iter().map(|field| field.kind).collect();
     let sizes: Vec<usize> = fields.iter().map(|field| field.payload.len()).collect();
@@ -55,26 +76,35 @@ fn write(args: &Args, words: &[String]) -> Result<Answer, Failure> {
         Answer::DONE => {}
         answer => return Err(refused(answer)),
     }
-    write_file("--out", path, &book)?;
-    print(&fields_table(args, &fields, &book))?;
+    let mode =
+        if kinds.iter().any(|kind| is_private(*kind)) { Mode::Private } else { Mode::Shared };
+    write_file("--out", path, &book, mode)?;
+    told(path, &fields_table(args, &fields, &book))?;
     Ok(Answer::DONE)
 }
 
 /// A field as it stands on the command line.
-fn field(word: &str) -> Result<Field, Failure> {
-    let wrong = || Failure::usage(format!("'{word}' is not EXERCISE,KIND=BYTES"));
-    let (left, value) = word.split_once('=').ok_or_else(wrong)?;
+fn field(word: &OsStr, book: &OsStr) -> Result<Field, Failure> {
+    let shown = word.display();
+    let wrong = || Failure::usage(format!("'{shown}' is not EXERCISE,KIND=BYTES"));
+    let bytes = word.as_bytes();
+    let cut = bytes.iter().position(|byte| *byte == b'=').ok_or_else(wrong)?;
+    let left = String::from_utf8_lossy(&bytes[..cut]);
+    let value = OsStr::from_bytes(&bytes[cut + 1..]);
     let (exercise, kind) = left.split_once(',').ok_or_else(wrong)?;
+    if same(value, book) {
+        return Err(Failure::usage(format!("--out '{}' is '{shown}' as well", book.display())));
+    }
     let exercise = exercise.parse().map_err(|_| wrong())?;
     let kind = match KINDS.iter().position(|name| *name == kind) {
         Some(at) => at as u8 + 1,
         None => kind.parse().map_err(|_| wrong())?,
     };
-    Ok(Field { exercise, kind, payload: inputs::read(word, value)? })
+    Ok(Field { exercise, kind, payload: inputs::read(&left, value, MOST_PAYLOAD)? })
 }
 
 fn read(args: &Args) -> Result<Answer, Failure> {
-    let book = inputs::bytes(args, "--book")?;
+    let book = inputs::up_to(args, "--book", MOST_BOOK)?;
     match books::read(&book) {
         Answer::DONE => {}
         answer => return Err(refused(answer)),
@@ -117,7 +147,7 @@ fn kind_name(kind: u8) -> &'static str {
 
 fn salvage(args: &Args) -> Result<Answer, Failure> {
     let path = args.required("--out")?;
-    let book = inputs::bytes(args, "--book")?;
+    let book = inputs::up_to(args, "--book", MOST_BOOK)?;
     let mut output = vec![0; book.len()];
     let mut list = vec![0; book.len() / BLOCK];
     let mut kept = 0;
@@ -125,8 +155,11 @@ fn salvage(args: &Args) -> Result<Answer, Failure> {
         Answer::DONE => {}
         answer => return Err(refused(answer)),
     }
-    write_file("--out", path, &output[..kept * BLOCK])?;
-    print(&blocks_table(args, &list, kept))?;
+    let kept_blocks = &output[..kept * BLOCK];
+    let private = kept_blocks.chunks(BLOCK).any(|block| is_private(model::head(block).kind));
+    let mode = if private { Mode::Private } else { Mode::Shared };
+    write_file("--out", path, kept_blocks, mode)?;
+    told(path, &blocks_table(args, &list, kept))?;
     Ok(Answer::DONE)
 }
 

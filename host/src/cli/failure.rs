@@ -3,6 +3,8 @@
 use crate::answer::Answer;
 use crate::kat::Refused;
 use crate::set::{SALT, Set};
+use std::fmt;
+use std::path::Path;
 
 /// Exit statuses beside page 01's numbers: a wrong command line, a file that fails.
 pub const USAGE: i32 = 64;
@@ -14,11 +16,28 @@ pub struct Failure {
     pub text: String,
 }
 
+/// How long an argument is. What has an exact length is read at most one byte past it, so of what
+/// comes through a pipe no more may be known.
+#[derive(Clone, Copy, PartialEq, Eq, Debug)]
+pub enum Length {
+    Exactly(usize),
+    MoreThan(usize),
+}
+
+impl fmt::Display for Length {
+    fn fmt(&self, f: &mut fmt::Formatter) -> fmt::Result {
+        match self {
+            Length::Exactly(count) => write!(f, "{count} bytes"),
+            Length::MoreThan(count) => write!(f, "more than {count} bytes"),
+        }
+    }
+}
+
 /// An argument whose length an operation can refuse.
 pub struct Given {
     pub refusal: Answer,
     pub argument: &'static str,
-    pub length: usize,
+    pub length: Length,
     pub exact: usize,
 }
 
@@ -43,13 +62,13 @@ impl Failure {
     }
 
     /// A response file that the proved reader refuses.
-    pub fn response(file: &str, refused: &Refused) -> Failure {
+    pub fn response(file: &Path, refused: &Refused) -> Failure {
         let status = refused.answer.number() as i32;
-        Failure { status, text: format!("'{file}': {refused}") }
+        Failure { status, text: format!("'{}': {refused}", file.display()) }
     }
 
     /// A salt that is not 16 bytes: it is refused here where it is hashed before the call.
-    pub fn salt(set: Set, length: usize) -> Failure {
+    pub fn salt(set: Set, length: Length) -> Failure {
         let given = Given { refusal: Answer::SALT, argument: "--salt", length, exact: SALT };
         Failure::about(Answer::SALT, set, &[given])
     }
@@ -59,9 +78,8 @@ impl Failure {
         let mut failure = Failure::answer(answer, set);
         if let Some(given) = given.iter().find(|given| given.refusal == answer) {
             let Given { argument, length, exact, .. } = given;
-            failure.text = format!(
-                "refused with {answer}: {argument} has {length} bytes, set {set} takes {exact}"
-            );
+            failure.text =
+                format!("refused with {answer}: {argument} has {length}, set {set} takes {exact}");
         }
         failure
     }

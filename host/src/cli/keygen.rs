@@ -11,8 +11,8 @@ use crate::set::Set;
 pub const COMMAND: Command = Command {
     name: "keygen",
     about: "the key P22, from two streams or from two seeds",
-    usage: "SET --public BYTES --private BYTES [--out FILE]\n\
-            SET --public-seed BYTES --private-seed BYTES [--expansion NAME] [--out FILE]",
+    usage: "SET --public BYTES --private BYTES [--engine NAME] [--out FILE]\n\
+            SET --public-seed BYTES --private-seed BYTES [--expansion NAME] [--engine NAME] [--out FILE]",
     notes: "The key leaves out the public seed: the paper's public key is the seed and then this key.\n\
             example: snova keygen 1,1,2 --public hex:011000000000 --private hex:15",
     options: &[
@@ -29,9 +29,7 @@ pub const COMMAND: Command = Command {
 
 fn run(args: &Args) -> Result<Answer, Failure> {
     let set = args.only_set()?;
-    let streams = ["--public", "--private"];
-    let seeds = ["--public-seed", "--private-seed", "--expansion"];
-    let key = if inputs::by_streams(args, &streams, &seeds)? {
+    let key = if inputs::by_streams(args) {
         from_streams(args, set)?
     } else {
         let seeds = inputs::seeds(args)?;
@@ -44,9 +42,9 @@ fn run(args: &Args) -> Result<Answer, Failure> {
 }
 
 fn from_streams(args: &Args, set: Set) -> Result<Vec<u8>, Failure> {
-    let public = inputs::bytes(args, "--public")?;
-    let private = inputs::bytes(args, "--private")?;
     let exact = set.lengths();
+    let public = inputs::up_to(args, "--public", exact.map_or(0, |exact| exact.public))?;
+    let private = inputs::up_to(args, "--private", exact.map_or(0, |exact| exact.private))?;
     let mut key = vec![0; exact.map_or(0, |exact| exact.key)];
     let streams = KeyStreams { public: &public, private: &private };
     let answer = args.engine()?.keygen(set, &streams, &mut key);
@@ -56,8 +54,8 @@ fn from_streams(args: &Args, set: Set) -> Result<Vec<u8>, Failure> {
     let given = |refusal, argument, length, exact| Given { refusal, argument, length, exact };
     let given = exact.map(|exact| {
         [
-            given(Answer::PUBLIC, "--public", public.len(), exact.public),
-            given(Answer::PRIVATE, "--private", private.len(), exact.private),
+            given(Answer::PUBLIC, "--public", public.length, exact.public),
+            given(Answer::PRIVATE, "--private", private.length, exact.private),
         ]
     });
     Err(Failure::about(answer, set, given.as_ref().map_or(&[], |given| &given[..])))

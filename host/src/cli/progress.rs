@@ -1,5 +1,6 @@
-//! A line on standard error while long work goes on.
+//! A line on standard error while long work goes on. Where it cannot be written, the work goes on.
 
+use super::output;
 use std::io::{IsTerminal, Write};
 use std::time::{Duration, Instant};
 
@@ -19,11 +20,12 @@ impl Progress {
 
     pub fn say(&mut self, text: &str) {
         if self.terminal {
-            eprint!("\r{text:<width$}", width = self.width);
-            let _ = std::io::stderr().flush();
+            let mut err = std::io::stderr();
+            let _ = write!(err, "\r{text:<width$}", width = self.width);
+            let _ = err.flush();
             self.width = text.chars().count();
         } else if self.last.is_none_or(|last| last.elapsed() >= PAUSE) {
-            eprintln!("{text}");
+            output::tell(text);
             self.last = Some(Instant::now());
         }
     }
@@ -32,7 +34,7 @@ impl Progress {
 impl Drop for Progress {
     fn drop(&mut self) {
         if self.terminal && self.width > 0 {
-            eprint!("\r{:width$}\r", "", width = self.width);
+            let _ = write!(std::io::stderr(), "\r{:width$}\r", "", width = self.width);
         }
     }
 }

@@ -8,7 +8,7 @@ use crate::answer::Answer;
 pub const COMMAND: Command = Command {
     name: "salt",
     about: "the salt of a signature: its last sixteen bytes",
-    usage: "SET --signature BYTES [--out FILE]",
+    usage: "SET --signature BYTES [--engine NAME] [--out FILE]",
     notes: "",
     options: &[opt("--signature", "BYTES", "the signature, with its salt"), ENGINE, OUT],
     run,
@@ -16,15 +16,15 @@ pub const COMMAND: Command = Command {
 
 fn run(args: &Args) -> Result<Answer, Failure> {
     let set = args.only_set()?;
-    let signature = inputs::bytes(args, "--signature")?;
+    let exact = set.lengths().map_or(0, |exact| exact.signature);
+    let signature = inputs::up_to(args, "--signature", exact)?;
     let engine = args.engine()?;
     let answer = engine.salt_status(set, &signature);
     if answer != Answer::DONE {
-        let exact = set.lengths().map_or(0, |exact| exact.signature);
         let given = Given {
             refusal: Answer::SIGNATURE,
             argument: "--signature",
-            length: signature.len(),
+            length: signature.length,
             exact,
         };
         return Err(Failure::about(answer, set, &[given]));

@@ -2,21 +2,28 @@
 
 use super::args::{Args, Command, ENGINE, EXPANSION, OUT, opt};
 use super::failure::{Failure, Given};
-use super::{inputs, output};
+use super::inputs::{self, Bytes};
+use super::output::{self, Draft, Mode};
 use crate::answer::Answer;
 use crate::lent::SigningStreams;
-use crate::scheme::Scheme;
+use crate::scheme::{Scheme, Seeds};
 use crate::set::{Lengths, SALT, Set};
+use std::ffi::OsStr;
 
 pub const COMMAND: Command = Command {
     name: "sign",
     about: "a signature, from streams or from two seeds and a document",
-    usage: "SET --public BYTES --abq BYTES --private BYTES --vinegar BYTES --target BYTES --salt BYTES [--out FILE]\n\
-            SET --public-seed BYTES --private-seed BYTES --document BYTES [--salt BYTES] [--out FILE]",
+    usage: "SET --sk BYTES (--document BYTES | --digest BYTES) [--salt BYTES] [--expansion NAME] [--engine NAME] [--out FILE]\n\
+            SET --sk BYTES --document BYTES --attached [--salt BYTES] [--expansion NAME] [--engine NAME] [--out FILE]\n\
+            SET --public-seed BYTES --private-seed BYTES (--document BYTES | --digest BYTES) [--salt BYTES] [--expansion NAME] [--engine NAME] [--out FILE]\n\
+            SET --public BYTES --abq BYTES --private BYTES --vinegar BYTES --target BYTES --salt BYTES [--engine NAME] [--out FILE]",
     notes: "With streams there is one try, which may answer 2 (redo). With seeds the try number goes up\n\
             from 1; without --salt the system chooses one. --digest stands for --document where the\n\
-            digest is known.",
+            digest is known. --attached writes the signature and then the document: a signed message.\n\
+            example: snova sign 24,5,4 --sk my.sk --document letter --out letter.sig",
     options: &[
+        opt("--sk", "BYTES", "the secret key: public seed and private seed, 48 bytes"),
+        opt("--attached", "", "write a signed message: the signature, then the document"),
         opt("--public", "BYTES", "the public stream"),
         opt("--abq", "BYTES", "the ABQ stream"),
         opt("--private", "BYTES", "the private stream"),
@@ -26,7 +33,7 @@ pub const COMMAND: Command = Command {
         opt("--public-seed", "BYTES", "16 bytes"),
         opt("--private-seed", "BYTES", "32 bytes"),
         opt("--document", "BYTES", "what is signed"),
-        opt("--digest", "BYTES", "its digest"),
+        opt("--digest", "BYTES", "its digest, 64 bytes"),
         EXPANSION,
         ENGINE,
         OUT,
@@ -36,36 +43,75 @@ pub const COMMAND: Command = Command {
 
 fn run(args: &Args) -> Result<Answer, Failure> {
     let set = args.only_set()?;
-    let streams = ["--public", "--abq", "--private", "--vinegar", "--target"];
-    let seeds = ["--public-seed", "--private-seed", "--document", "--digest", "--expansion"];
-    let signature = if inputs::by_streams(args, &streams, &seeds)? {
-        from_streams(args, set)?
-    } else {
-        from_seeds(args, set)?
-    };
+    if args.flag("--attached") {
+        return attached(args, set);
+    }
+    let signature =
+        if inputs::by_streams(args) { from_streams(args, set)? } else { from_seeds(args, set)? };
     output::write(args, &signature)?;
     Ok(Answer::DONE)
 }
 
-fn from_seeds(args: &Args, set: Set) -> Result<Vec<u8>, Failure> {
-    let seeds = inputs::seeds(args)?;
-    let digest = inputs::digest(args)?;
-    let refused = |answer| Failure::answer(answer, set);
-    let scheme = Scheme::new(set, args.expansion()?, args.engine()?).map_err(refused)?;
-    let salt = if args.flag("--salt") { inputs::salt(args, set)? } else { inputs::random_salt()? };
-    let signed = scheme.sign(&seeds, &digest, &salt).map_err(refused)?;
-    if signed.tries > 1 {
-        eprintln!("snova sign: try {} gave the signature, the ones before it redo", signed.tries);
+/// What signs a digest: the seeds, the scheme and the salt.
+struct Signer {
+    seeds: Seeds,
+    scheme: Scheme,
+    salt: [u8; SALT],
+}
+
+impl Signer {
+    fn new(args: &Args, set: Set) -> Result<Signer, Failure> {
+        let seeds = inputs::seeds(args)?;
+        let scheme = Scheme::new(set, args.expansion()?, args.engine()?);
+        let scheme = scheme.map_err(|answer| Failure::answer(answer, set))?;
+        let given = args.flag("--salt");
+        let salt = if given { inputs::salt(args, set)? } else { inputs::random("--salt")? };
+        Ok(Signer { seeds, scheme, salt })
     }
-    Ok(signed.signature)
+
+    fn sign(&self, digest: &[u8]) -> Result<Vec<u8>, Failure> {
+        let signed = self.scheme.sign(&self.seeds, digest, &self.salt);
+        let signed = signed.map_err(|answer| Failure::answer(answer, self.scheme.set))?;
+        if signed.tries > 1 {
+            let tries = signed.tries;
+            output::tell(&format!(
+                "snova sign: try {tries} gave the signature, the ones before it redo"
+            ));
+        }
+        Ok(signed.signature)
+    }
+}
+
+fn from_seeds(args: &Args, set: Set) -> Result<Vec<u8>, Failure> {
+    let signer = Signer::new(args, set)?;
+    signer.sign(&inputs::digest(args)?)
+}
+
+/// The signed message: the document is copied while it is hashed, and the signature is put before
+/// it once it is known.
+fn attached(args: &Args, set: Set) -> Result<Answer, Failure> {
+    let signer = Signer::new(args, set)?;
+    let path = args.option("--out").unwrap_or(OsStr::new("-"));
+    let mut draft = Draft::new("--out", path, Mode::Shared)?;
+    draft.add(&vec![0; signer.scheme.exact.signature])?;
+    let mut document = inputs::open("--document", args.required("--document")?)?;
+    let digest = document.digest(|piece| draft.add(piece))?;
+    draft.write_head(&signer.sign(&digest)?)?;
+    draft.keep()?;
+    Ok(Answer::DONE)
 }
 
 fn from_streams(args: &Args, set: Set) -> Result<Vec<u8>, Failure> {
-    let [public, abq, private, vinegar, target, salt] =
-        ["--public", "--abq", "--private", "--vinegar", "--target", "--salt"]
-            .map(|name| inputs::bytes(args, name));
-    let (public, abq, private) = (public?, abq?, private?);
-    let (vinegar, target, salt) = (vinegar?, target?, salt?);
+    let exact = set.lengths();
+    let read = |name: &str, length: fn(&Lengths) -> usize| {
+        inputs::up_to(args, name, exact.as_ref().map_or(0, length))
+    };
+    let public = read("--public", |exact| exact.public)?;
+    let abq = read("--abq", |exact| exact.abq)?;
+    let private = read("--private", |exact| exact.private)?;
+    let vinegar = read("--vinegar", |exact| exact.vinegar)?;
+    let target = read("--target", |exact| exact.target)?;
+    let salt = read("--salt", |_| SALT)?;
     let streams = SigningStreams {
         public: &public,
         abq: &abq,
@@ -74,7 +120,6 @@ fn from_streams(args: &Args, set: Set) -> Result<Vec<u8>, Failure> {
         target: &target,
         salt: &salt,
     };
-    let exact = set.lengths();
     let mut work = vec![0; exact.map_or(0, |exact| exact.work)];
     let mut signature = vec![0; exact.map_or(0, |exact| exact.signature)];
     match args.engine()?.sign(set, &streams, &mut work, &mut signature) {
@@ -84,25 +129,23 @@ fn from_streams(args: &Args, set: Set) -> Result<Vec<u8>, Failure> {
             Err(Failure { text, ..Failure::answer(Answer::REDO, set) })
         }
         answer => {
-            let given = exact.map(|exact| given(&streams, &exact)).unwrap_or_default();
-            Err(Failure::about(answer, set, &given))
+            let given = |refusal, argument, bytes: &Bytes, exact| Given {
+                refusal,
+                argument,
+                length: bytes.length,
+                exact,
+            };
+            let given = exact.map(|exact| {
+                [
+                    given(Answer::PUBLIC, "--public", &public, exact.public),
+                    given(Answer::ABQ, "--abq", &abq, exact.abq),
+                    given(Answer::PRIVATE, "--private", &private, exact.private),
+                    given(Answer::VINEGAR, "--vinegar", &vinegar, exact.vinegar),
+                    given(Answer::TARGET, "--target", &target, exact.target),
+                    given(Answer::SALT, "--salt", &salt, SALT),
+                ]
+            });
+            Err(Failure::about(answer, set, given.as_ref().map_or(&[], |given| &given[..])))
         }
     }
-}
-
-fn given(streams: &SigningStreams, exact: &Lengths) -> Vec<Given> {
-    let given = |refusal, argument, bytes: &[u8], exact| Given {
-        refusal,
-        argument,
-        length: bytes.len(),
-        exact,
-    };
-    vec![
-        given(Answer::PUBLIC, "--public", streams.public, exact.public),
-        given(Answer::ABQ, "--abq", streams.abq, exact.abq),
-        given(Answer::PRIVATE, "--private", streams.private, exact.private),
-        given(Answer::VINEGAR, "--vinegar", streams.vinegar, exact.vinegar),
-        given(Answer::TARGET, "--target", streams.target, exact.target),
-        given(Answer::SALT, "--salt", streams.salt, SALT),
-    ]
 }

@@ -2,7 +2,8 @@
 
 use super::args::{Args, Command, EXPANSION, OUT, opt, read_set};
 use super::failure::Failure;
-use super::{inputs, output};
+use super::inputs;
+use super::output::{self, Mode};
 use crate::answer::Answer;
 use crate::set::{Lengths, Set};
 use crate::streams;
@@ -13,14 +14,15 @@ pub const COMMAND: Command = Command {
     usage: "SET public  --public-seed BYTES [--expansion NAME] [--out FILE]\n\
             SET abq     --public-seed BYTES [--expansion NAME] [--out FILE]\n\
             SET private --private-seed BYTES [--out FILE]\n\
-            SET vinegar --private-seed BYTES --document BYTES --salt BYTES [--try NUMBER] [--out FILE]\n\
-            SET target  --public-seed BYTES --document BYTES --salt BYTES [--out FILE]",
-    notes: "For l up to 3 the ABQ stream is the same for every seed.",
+            SET vinegar --private-seed BYTES (--document BYTES | --digest BYTES) --salt BYTES [--try NUMBER] [--out FILE]\n\
+            SET target  --public-seed BYTES (--document BYTES | --digest BYTES) --salt BYTES [--out FILE]",
+    notes: "For l up to 3 the ABQ stream is the same for every seed. The file of a private or vinegar stream can\n\
+            be read by its owner alone.",
     options: &[
         opt("--public-seed", "BYTES", "16 bytes"),
         opt("--private-seed", "BYTES", "32 bytes"),
         opt("--document", "BYTES", "what is signed"),
-        opt("--digest", "BYTES", "its digest"),
+        opt("--digest", "BYTES", "its digest, 64 bytes"),
         opt("--salt", "BYTES", "16 bytes"),
         opt("--try", "NUMBER", "1 to 255 (the default is 1)"),
         EXPANSION,
@@ -34,8 +36,11 @@ fn run(args: &Args) -> Result<Answer, Failure> {
         return Err(Failure::usage("a SET and the name of a stream must stand, no more"));
     };
     let set = read_set(set)?;
+    let name = name.to_string_lossy();
     let exact = set.lengths().ok_or_else(|| Failure::answer(Answer::SET, set))?;
-    output::write(args, &stream(args, set, &exact, name)?)?;
+    let stream = stream(args, set, &exact, &name)?;
+    let private = ["private", "vinegar"].contains(&&*name);
+    output::write_as(args, &stream, if private { Mode::Private } else { Mode::Shared })?;
     Ok(Answer::DONE)
 }
 

@@ -1,4 +1,5 @@
-//! AES-128 and AES-256 (FIPS 197), and counter mode. Byte by byte, from the standard's text.
+//! AES-128 and AES-256 (FIPS 197), and counter mode, from the standard's text. A round goes column by
+//! column: what SubBytes and MixColumns make of one byte is looked up.
 
 pub const BLOCK: usize = 16;
 pub type Block = [u8; BLOCK];
@@ -28,6 +29,23 @@ const fn s_box() -> [u8; 256] {
     table
 }
 
+/// What a byte at row 0 of a column adds to the column, SubBytes and MixColumns taken together: the
+/// multiples 2, 1, 1 and 3 of its S-box value, row 0 in the lowest byte. For row r it is turned by
+/// 8 r bits.
+static MIXED: [u32; 256] = mixed();
+
+const fn mixed() -> [u32; 256] {
+    let table = s_box();
+    let mut mixed = [0; 256];
+    let mut at = 0;
+    while at < 256 {
+        let (one, two) = (table[at], times_x(table[at]));
+        mixed[at] = u32::from_le_bytes([two, one, one, one ^ two]);
+        at += 1;
+    }
+    mixed
+}
+
 const fn divided_by_3(mut q: u8) -> u8 {
     q ^= q << 1;
     q ^= q << 2;
@@ -38,6 +56,8 @@ const fn divided_by_3(mut q: u8) -> u8 {
 /// An expanded key: a round key for the start and for every round.
 pub struct Aes {
     round_keys: Vec<Block>,
+    /// The same by columns.
+    columns: Vec<[u32; 4]>,
 }
 
 impl Aes {
@@ -68,15 +88,26 @@ impl Aes {
             words.push(std::array::from_fn(|b| word[b] ^ earlier[b]));
         }
         let round_key = |w: &[[u8; 4]]| std::array::from_fn(|b| w[b / 4][b % 4]);
-        Aes { round_keys: words.chunks(4).map(round_key).collect() }
+        let round_keys: Vec<Block> = words.chunks(4).map(round_key).collect();
+        let columns = round_keys.iter().map(columns).collect();
+        Aes { round_keys, columns }
     }
 
     pub fn encrypt(&self, block: &Block) -> Block {
         let last = self.round_keys.len() - 1;
-        let mut state = with_key(block, &self.round_keys[0]);
-        for key in &self.round_keys[1..last] {
-            state = with_key(&mix_columns(&shift_rows(&sub_bytes(&state))), key);
+        let mut state = columns(&with_key(block, &self.round_keys[0]));
+        for key in &self.columns[1..last] {
+            // Row r of column c comes from column c + r: ShiftRows.
+            state = std::array::from_fn(|c| {
+                let mixed = |r: usize| MIXED[(state[(c + r) % 4] >> (8 * r)) as usize & 0xFF];
+                mixed(0)
+                    ^ mixed(1).rotate_left(8)
+                    ^ mixed(2).rotate_left(16)
+                    ^ mixed(3).rotate_left(24)
+                    ^ key[c]
+            });
         }
+        let state: Block = std::array::from_fn(|at| state[at / 4].to_le_bytes()[at % 4]);
         with_key(&shift_rows(&sub_bytes(&state)), &self.round_keys[last])
     }
 
@@ -85,7 +116,7 @@ impl Aes {
         let mut counter: Block = [0; BLOCK];
         let mut output = Vec::with_capacity(length + BLOCK);
         while output.len() < length {
-            output.extend(self.encrypt(&counter));
+            output.extend_from_slice(&self.encrypt(&counter));
             increment(&mut counter);
         }
         output.truncate(length);
@@ -116,9 +147,7 @@ fn shift_rows(state: &Block) -> Block {
     std::array::from_fn(|at| state[(at + 4 * (at % 4)) % BLOCK])
 }
 
-fn mix_columns(state: &Block) -> Block {
-    std::array::from_fn(|at| {
-        let row = |r: usize| state[at / 4 * 4 + (at + r) % 4];
-        times_x(row(0)) ^ times_x(row(1)) ^ row(1) ^ row(2) ^ row(3)
-    })
+/// The columns of a block, row 0 in the lowest byte.
+fn columns(block: &Block) -> [u32; 4] {
+    std::array::from_fn(|c| u32::from_le_bytes(std::array::from_fn(|r| block[4 * c + r])))
 }

@@ -6,7 +6,7 @@ const ROUNDS: usize = 24;
 static CONSTANTS: [u64; ROUNDS] = round_constants();
 
 /// How far rho turns each lane, by FIPS 202, Algorithm 2.
-static OFFSETS: [u32; 25] = rho_offsets();
+const OFFSETS: [u32; 25] = rho_offsets();
 
 const fn round_constants() -> [u64; ROUNDS] {
     let mut constants = [0; ROUNDS];
@@ -41,39 +41,36 @@ const fn rho_offsets() -> [u32; 25] {
     offsets
 }
 
+/// The 24 rounds: theta, rho and pi, chi, iota. The loops over x and y have fixed bounds and no
+/// index that depends on the state, so that they are unrolled.
 pub fn permute(state: &mut [u64; 25]) {
+    let mut a = *state;
     for constant in CONSTANTS {
-        theta(state);
-        let turned = rho_and_pi(state);
-        chi(&turned, state);
-        state[0] ^= constant;
+        // theta: the parities of two columns go onto every lane of the one between them
+        let mut column = [0; 5];
+        for x in 0..5 {
+            column[x] = a[x] ^ a[x + 5] ^ a[x + 10] ^ a[x + 15] ^ a[x + 20];
+        }
+        let mut change = [0; 5];
+        for x in 0..5 {
+            change[x] = column[(x + 4) % 5] ^ column[(x + 1) % 5].rotate_left(1);
+        }
+        // rho and pi: lane (x, y), turned, goes to (y, 2 x + 3 y)
+        let mut turned = [0; 25];
+        for y in 0..5 {
+            for x in 0..5 {
+                let lane = a[x + 5 * y] ^ change[x];
+                turned[y + 5 * ((2 * x + 3 * y) % 5)] = lane.rotate_left(OFFSETS[x + 5 * y]);
+            }
+        }
+        // chi, row by row
+        for y in 0..5 {
+            for x in 0..5 {
+                let (next, after) = (turned[(x + 1) % 5 + 5 * y], turned[(x + 2) % 5 + 5 * y]);
+                a[x + 5 * y] = turned[x + 5 * y] ^ (!next & after);
+            }
+        }
+        a[0] ^= constant;
     }
-}
-
-fn theta(state: &mut [u64; 25]) {
-    let mut column = [0; 5];
-    for (at, lane) in state.iter().enumerate() {
-        column[at % 5] ^= lane;
-    }
-    for (at, lane) in state.iter_mut().enumerate() {
-        let x = at % 5;
-        *lane ^= column[(x + 4) % 5] ^ column[(x + 1) % 5].rotate_left(1);
-    }
-}
-
-/// Lane (x, y), turned, goes to (y, 2 x + 3 y).
-fn rho_and_pi(state: &[u64; 25]) -> [u64; 25] {
-    let mut turned = [0; 25];
-    for (at, lane) in state.iter().enumerate() {
-        let (x, y) = (at % 5, at / 5);
-        turned[y + 5 * ((2 * x + 3 * y) % 5)] = lane.rotate_left(OFFSETS[at]);
-    }
-    turned
-}
-
-fn chi(from: &[u64; 25], state: &mut [u64; 25]) {
-    for (at, lane) in state.iter_mut().enumerate() {
-        let (x, row) = (at % 5, at / 5 * 5);
-        *lane = from[at] ^ !from[row + (x + 1) % 5] & from[row + (x + 2) % 5];
-    }
+    *state = a;
 }

@@ -34,31 +34,57 @@ impl<const RATE: usize> Shake<RATE> {
         output
     }
 
-    /// Takes input in. Once output was given, the input is complete and none may follow.
-    pub fn absorb(&mut self, input: &[u8]) {
+    /// Takes input in. Once output was given, the input is complete and none may follow. Whole
+    /// blocks are taken by lanes of eight bytes.
+    pub fn absorb(&mut self, mut input: &[u8]) {
         assert!(!self.giving, "input after output");
-        for &byte in input {
-            self.add(self.at, byte);
-            self.at += 1;
+        while !input.is_empty() {
+            if self.at == 0 && input.len() >= RATE {
+                let (block, rest) = input.split_at(RATE);
+                for (lane, bytes) in self.state.iter_mut().zip(block.chunks_exact(8)) {
+                    *lane ^= u64::from_le_bytes(bytes.try_into().expect("eight bytes"));
+                }
+                keccak::permute(&mut self.state);
+                input = rest;
+                continue;
+            }
+            let (part, rest) = input.split_at(input.len().min(RATE - self.at));
+            for &byte in part {
+                self.add(self.at, byte);
+                self.at += 1;
+            }
             if self.at == RATE {
                 keccak::permute(&mut self.state);
                 self.at = 0;
             }
+            input = rest;
         }
     }
 
-    /// Gives the next bytes of output.
-    pub fn squeeze(&mut self, output: &mut [u8]) {
+    /// Gives the next bytes of output, whole blocks by lanes.
+    pub fn squeeze(&mut self, mut output: &mut [u8]) {
         if !self.giving {
             self.pad();
         }
-        for byte in output {
+        while !output.is_empty() {
             if self.at == RATE {
                 keccak::permute(&mut self.state);
                 self.at = 0;
             }
-            *byte = (self.state[self.at / 8] >> (8 * (self.at % 8))) as u8;
-            self.at += 1;
+            let count = output.len().min(RATE - self.at);
+            let (part, rest) = output.split_at_mut(count);
+            if self.at % 8 == 0 {
+                let lanes = self.state[self.at / 8..].iter();
+                for (bytes, lane) in part.chunks_mut(8).zip(lanes) {
+                    bytes.copy_from_slice(&lane.to_le_bytes()[..bytes.len()]);
+                }
+            } else {
+                for (byte, at) in part.iter_mut().zip(self.at..) {
+                    *byte = (self.state[at / 8] >> (8 * (at % 8))) as u8;
+                }
+            }
+            self.at += count;
+            output = rest;
         }
     }
 
