@@ -1,5 +1,8 @@
 //! Exercise books and salvage (page 02, Req 13 and Req 14): the proved library against a plain reader, writer and salvager, on thousands of random books.
 
+mod common;
+
+use common::guard::Guarded;
 use snova_host::answer::Answer;
 use snova_host::books::model::{self, Field};
 use snova_host::books::{self, BLOCK};
@@ -38,9 +41,11 @@ fn write(fields: &[Field], length: usize) -> (Answer, Vec<u8>) {
     let kinds: Vec<u8> = fields.iter().map(|field| field.kind).collect();
     let sizes: Vec<usize> = fields.iter().map(|field| field.payload.len()).collect();
     let payload: Vec<u8> = fields.iter().flat_map(|field| field.payload.clone()).collect();
-    let mut book = vec![0xA5; length];
-    let answer = books::write(&exercises, &kinds, &sizes, &payload, &mut book);
-    (answer, book)
+    let mut book = Guarded::new(&vec![0xA5; length]);
+    let answer =
+        books::write(&exercises, &Guarded::new(&kinds), &sizes, &Guarded::new(&payload), &mut book);
+    assert!(book.intact(), "nothing is written before the book");
+    (answer, book.to_vec())
 }
 
 /// A book with some of its words altered, blocks moved, lost or made anew.
@@ -125,6 +130,7 @@ fn damaged_books_agree() {
             bad.push(0);
         }
         let number = model::read(&bad).err().unwrap_or(0);
+        let bad = Guarded::new(&bad);
         assert_eq!(books::read(&bad), Answer(number), "seed {seed}");
         assert_eq!(
             books::fields(&bad).map_err(|answer| answer.0),
@@ -141,15 +147,15 @@ fn salvage_agrees_and_the_reader_takes_it() {
         let book = model::write(&fields(&mut prng)).expect("fields in order");
         let bad = damaged(&mut prng, &book);
         let (new, list) = model::salvage(&bad).expect("whole blocks");
-        let mut output = vec![0xA5; bad.len()];
-        let mut numbers = vec![0xA5; bad.len() / BLOCK];
+        let mut output = Guarded::new(&vec![0xA5; bad.len()]);
+        let mut numbers = Guarded::new(&vec![0xA5; bad.len() / BLOCK]);
         let mut kept = 99_999;
         assert_eq!(
-            books::salvage(&bad, &mut output, &mut numbers, &mut kept),
+            books::salvage(&Guarded::new(&bad), &mut output, &mut numbers, &mut kept),
             Answer::DONE,
             "seed {seed}"
         );
-        assert_eq!(numbers, list, "seed {seed}");
+        assert_eq!(*numbers, list, "seed {seed}");
         assert_eq!(kept * BLOCK, new.len(), "seed {seed}");
         assert_eq!(output[..new.len()], new, "seed {seed}");
         assert!(

@@ -3,11 +3,10 @@
 mod common;
 
 use common::cases;
+use common::guard::Guarded;
 use snova_host::answer::Answer;
 use snova_host::engine::Engine;
 use snova_host::hex;
-
-const GUARD: [u8; 16] = [0xC5; 16];
 
 #[derive(Clone, Copy, Debug)]
 enum Op {
@@ -15,21 +14,19 @@ enum Op {
     Unpack,
 }
 
-/// Runs both sides on guarded copies of the same two slices; what the library answered and wrote.
+/// Runs both sides on copies of the same two slices that end at closed pages; what the library
+/// answered and wrote.
 fn both(place: &str, op: Op, read: &[u8], written: &[u8]) -> (Answer, Vec<u8>) {
     let run = |engine: Engine| {
-        let read_copy = read.to_vec();
-        let mut whole = [&GUARD[..], written, &GUARD[..]].concat();
-        let end = whole.len() - GUARD.len();
-        let lent = &mut whole[GUARD.len()..end];
+        let read_copy = Guarded::new(read);
+        let mut lent = Guarded::new(written);
         let answer = match op {
-            Op::Pack => engine.pack(&read_copy, lent),
-            Op::Unpack => engine.unpack(&read_copy, lent),
+            Op::Pack => engine.pack(&read_copy, &mut lent),
+            Op::Unpack => engine.unpack(&read_copy, &mut lent),
         };
-        assert_eq!(read_copy, read, "{place}: {engine} changed what it reads");
-        assert_eq!(whole[..GUARD.len()], GUARD, "{place}: {engine} wrote before the slice");
-        assert_eq!(whole[end..], GUARD, "{place}: {engine} wrote after the slice");
-        (answer, whole[GUARD.len()..end].to_vec())
+        assert_eq!(&*read_copy, read, "{place}: {engine} changed what it reads");
+        assert!(lent.intact(), "{place}: {engine} wrote before the slice");
+        (answer, lent.to_vec())
     };
     let (library, model) = (run(Engine::Library), run(Engine::Model));
     let inputs = format!("{op:?} of {} into {}", hex::encode(read), hex::encode(written));

@@ -153,3 +153,20 @@ fn every_planted_fault_is_seen() {
         assert!(seen > 0, "{name}: seen in no call");
     }
 }
+
+/// A library that reads five bytes past an input ends the run: seen in a process of its own.
+#[test]
+fn an_over_read_ends_the_run() {
+    if std::env::var_os("SNOVA_OVER_READ").is_some() {
+        let input = common::guard::Guarded::new(&[1, 2, 3]);
+        println!("{}", common::guard::over_read(&input));
+        return;
+    }
+    let output = std::process::Command::new(std::env::current_exe().expect("this test"))
+        .args(["--exact", "an_over_read_ends_the_run"])
+        .env("SNOVA_OVER_READ", "1")
+        .output()
+        .expect("it runs");
+    let signal = std::os::unix::process::ExitStatusExt::signal(&output.status);
+    assert_eq!(signal, Some(11), "{output:?}");
+}

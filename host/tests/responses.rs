@@ -1,6 +1,9 @@
 //! Response files: the proved reader against a plain one, written from page 02 alone, on sound and
 //! damaged files; and the proved program `read_responses`, fed in pieces that are cut at random.
 
+mod common;
+
+use common::guard::Guarded;
 use snova_host::answer::Answer;
 use snova_host::kat::{self, Entry};
 use snova_host::library;
@@ -204,7 +207,8 @@ fn the_library_reads_as_the_page_says() {
         let plain = Plain::of(&file);
         seen[plain.refusal as usize] += 1;
         let text = String::from_utf8_lossy(&file);
-        assert_eq!(library::responses(&file), Answer(plain.refusal), "case {case}: {text}");
+        let lent = Guarded::new(&file);
+        assert_eq!(library::responses(&lent), Answer(plain.refusal), "case {case}: {text}");
         match kat::read(&file) {
             Ok(entries) => assert_eq!(entries, plain.entries, "case {case}: {text}"),
             Err(refused) => assert_eq!(refused.line, plain.line, "case {case}: {text}"),
@@ -224,14 +228,15 @@ fn decoding_writes_all_or_nothing() {
             damage(&mut value, &mut prng);
         }
         let before = vec![0xEE; (value.len() / 2).saturating_add_signed(prng.pick(&[-1, 0, 0, 1]))];
-        let mut after = before.clone();
-        let answer = library::decode_hex(&value, &mut after);
+        let mut after = Guarded::new(&before);
+        let answer = library::decode_hex(&Guarded::new(&value), &mut after);
         let (number, bytes) = match hexadecimal(&value) {
             Err(refusal) => (refusal, before),
             Ok(bytes) if bytes.len() != before.len() => (20, before),
             Ok(bytes) => (0, bytes),
         };
-        assert_eq!((answer, after), (Answer(number), bytes), "case {case}");
+        assert!(after.intact(), "case {case}");
+        assert_eq!((answer, after.to_vec()), (Answer(number), bytes), "case {case}");
     }
 }
 

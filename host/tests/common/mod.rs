@@ -3,10 +3,12 @@
 
 mod cases;
 mod fill;
+pub mod guard;
 
 pub use cases::{cases, single_case};
 pub use fill::{Style, damage, fill, random_set, valid_call, verdict_of};
 
+use guard::Guarded;
 use snova_host::answer::Answer;
 use snova_host::engine::Engine;
 use snova_host::hex;
@@ -103,7 +105,7 @@ pub struct Call {
 
 /// Bytes on either side of each lent buffer, which nobody may touch.
 const GUARD: usize = 24;
-const GUARD_BYTE: u8 = 0xC5;
+const GUARD_BYTE: u8 = guard::BESIDE;
 
 /// The answer, and every buffer afterwards, guards included.
 #[derive(Clone, PartialEq, Eq)]
@@ -165,7 +167,29 @@ fn guards(whole: &[u8]) -> (&[u8], &[u8]) {
     (&whole[..GUARD], &whole[whole.len() - GUARD..])
 }
 
+/// What a call does. The library's buffers end at closed pages, or, in one call out of four, begin
+/// at them, so that it is seen where it reads outside them.
 pub fn outcome(call: &Call, engine: Engine) -> Outcome {
+    if engine == Engine::Library { on_closed_pages(call) } else { on_copies(call, engine) }
+}
+
+fn on_closed_pages(call: &Call) -> Outcome {
+    let first = call.buffers.iter().flatten().next();
+    let end = first.is_none_or(|byte| byte % 4 != 3);
+    let mut lent: Vec<Guarded> =
+        call.buffers.iter().map(|buffer| Guarded::at(buffer, end)).collect();
+    let slices = lent.iter_mut().map(|buffer| &mut buffer[..]).collect();
+    let answer = perform(call.op, call.set, slices, Engine::Library);
+    // A byte beside the buffer that changed is told as one of the bytes around it.
+    let around = |buffer: &Guarded| {
+        let mut whole = guarded(buffer);
+        whole[0] ^= u8::from(!buffer.intact());
+        whole
+    };
+    Outcome { answer, after: lent.iter().map(around).collect() }
+}
+
+fn on_copies(call: &Call, engine: Engine) -> Outcome {
     let mut after: Vec<Vec<u8>> = call.buffers.iter().map(|buffer| guarded(buffer)).collect();
     let lent: Vec<&mut [u8]> = after
         .iter_mut()

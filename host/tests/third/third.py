@@ -6,6 +6,7 @@ F are read off T^t P T, and the linear part of signing off the central map's pol
 
     third.py fingerprints > fingerprints.txt     streams, key and signature of some sets, from fixed seeds
     third.py files > files.txt                   the first entry of each set's response file
+    third.py answers                             a line for each line of standard input: hashes, ciphers, generators, keys and signatures
 """
 import hashlib
 import subprocess
@@ -310,5 +311,36 @@ def files():
             print(f'{v},{o},{l}', expansion, fingerprint(first_entry(v, o, l, expansion).encode()), flush=True)
 
 
+def given(word):
+    return b'' if word == '-' else bytes.fromhex(word)
+
+
+def answer(request):
+    """One request: bytes are hexadecimal, '-' where there are none."""
+    what, first, *words = request.split(' ')
+    if what == 'sign':
+        seeds, document, salt = map(given, words[1:])
+        v, o, l = map(int, first.split(','))
+        return b''.join(Scheme(v, o, l, words[0]).sign(seeds, document, salt))
+    data = given(first)
+    if what == 'generator':
+        generator = Generator(data)
+        return b''.join(generator.bytes(int(count)) for count in words)
+    if what == 'aes256':
+        return openssl('aes-256-ecb', data, given(words[0]))
+    count = int(words[0])
+    return {
+        'shake128': lambda: hashlib.shake_128(data).digest(count),
+        'shake256': lambda: hashlib.shake_256(data).digest(count),
+        'snova_shake': lambda: expanded(data, count, 'shake'),
+        'aes128-ctr': lambda: expanded(data, count, 'aes'),
+    }[what]()
+
+
+def answers():
+    for line in sys.stdin:
+        print(answer(line.rstrip('\n')).hex().upper())
+
+
 if __name__ == '__main__':
-    {'fingerprints': fingerprints, 'files': files}[sys.argv[1]]()
+    {'fingerprints': fingerprints, 'files': files, 'answers': answers}[sys.argv[1]]()
