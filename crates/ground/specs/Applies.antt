@@ -57,12 +57,12 @@ not-both p q = let z : ◌≡◌ {A = ℕ} 0 1 = cc in omega arith
 
 -- ---- the first is the lowest
 
-lowest-of-first : (a : ℕ) {n : ℕ} {rs : List Rule} → T (rising a rs) → First n rs → Lowest n rs
-lowest-of-first a {n} t (first-here {r = r} {rs = rs} e q) = record {
+lowest-of-first : {n : ℕ} (a : ℕ) {rs : List Rule} → T (rising a rs) → First n rs → Lowest n rs
+lowest-of-first {n} a t (first-here {r = r} {rs = rs} e q) = record {
   applies = record { rule = r; listed = Memᴰ.head refl; numbered = e; unmet = q };
   least = λ k p. ⊎_elim (λ s. omega (arith, s.0, e)) (λ s. omega (arith, applies-above r.number rs (rest-rising a r rs t) k s, e)) (applies-cases p);
 }
-lowest-of-first a {n} t (first-later {r = r} {rs = rs} q f) =
+lowest-of-first {n} a t (first-later {r = r} {rs = rs} q f) =
     let w = lowest-of-first r.number (rest-rising a r rs t) f in
     record { applies = applies-later w.applies; least = λ k p. ⊎_elim (λ s. absurd (not-both q s.1)) (w.least k) (applies-cases p) }
 
