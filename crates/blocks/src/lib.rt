@@ -1,5 +1,7 @@
 // A block of an exercise book (page 02, Req 13): 512 bytes that say what they hold, and their check. `block` reads one, `turn` judges it, `making` makes one.
 // What a block is, its check, its form and its turn stand in specs/; so does that one altered word is always seen.
+#![tactic(auto)]
+
 mod block;
 mod making;
 mod turn;

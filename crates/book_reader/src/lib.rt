@@ -1,5 +1,7 @@
 // The reader of exercise books (page 02, Req 13): a book is taken or refused; a cursor hands out each field's numbers, its parts as parts of the caller's book, and its bytes.
 // What a book, a field and the cursor are stands in `books`.
+#![tactic(auto)]
+
 mod cursor;
 mod fields;
 mod reader;

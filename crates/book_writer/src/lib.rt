@@ -1,5 +1,7 @@
 // The writer of exercise books (page 02, Req 13): the fields that lent lists tell become a book, or the call is refused and nothing is written.
 // `lists` looks at what is lent, `parts` writes a field's parts. What is written is `book_of` of `books`.
+#![tactic(auto)]
+
 mod lists;
 mod parts;
 

@@ -1,5 +1,7 @@
 // Every refusal of an operation, the rules about contents included, decided before anything is written. One function for each operation that asks about contents:
 // what else works on the same buffers calls it too. Where an operation asks about lengths alone (key generation, the salt), the crate refusals has that function.
+#![tactic(auto)]
+
 mod invertible;
 
 ghost use Rattle.std.specs.Prelude.{◌≡◌};

@@ -1,5 +1,7 @@
 // GF(16): polynomials over GF(2) modulo x⁴ + x + 1, an element to a byte. Sums are exclusive or; products read their factors modulo 16, so no caller owes a bound.
 // No table: a `const` array is copied at each look-up, and this arithmetic is vectorised where it stands in a loop.
+#![tactic(auto)]
+
 ghost use Rattle.std.specs.Prelude.{◌≡◌, ◌*◌, ◌%◌};
 ghost use Rattle.field.specs.Field.{add as sum, mul as product, inverse as inverse_of, power as power_of, chosen_of};
 

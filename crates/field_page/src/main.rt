@@ -1,4 +1,6 @@
 // Writes, for each element a, the powers by halves that lead to its inverse: 14 halves to 7, to 3, to 1. So from a: its square, times a; that squared, times a; that squared.
+#![tactic(auto)]
+
 use field::{inverse, power};
 use libc::STDOUT_FILENO;
 

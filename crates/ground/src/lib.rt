@@ -1,5 +1,7 @@
 // What every floor shares: the answer of an operation that can only be done or refused, and the pick of the first refusal that applies.
 // The laws about lists, places and computed tests that every proof cites stand in specs/.
+#![tactic(auto)]
+
 ghost use Rattle.std.specs.Prelude.{◌≡◌};
 ghost use Rattle.ground.specs.Pick.{pick};
 ghost use Rattle.ground.specs.Answers.{answer_of, number_of};

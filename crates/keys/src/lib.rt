@@ -1,5 +1,7 @@
 // Key generation (page 01, "Keys, signing, verdict"; document 000, Algorithm 9): P22 = T12ᵗ·F12 + P21·T12 of every i, packed; parts.rt regroups it.
 // `generate` is the public function. What it promises is `Generates` of specs/Generates.antt.
+#![tactic(auto)]
+
 mod elements;
 mod parts;
 

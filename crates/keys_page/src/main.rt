@@ -1,5 +1,7 @@
 // Runs page 01's key example, then a call for each refusal, and writes each answer and what the output holds after it.
 // Every output is filled with EE before the call, so that a refusal shows that it was left alone.
+#![tactic(auto)]
+
 use libc::STDOUT_FILENO;
 use sets::Set;
 

@@ -1,5 +1,7 @@
 // Elimination over GF(16), to the identity: the one solution of a system of up to 160 equations, or the answer that some vector that is not zero is sent to zero.
 // The system stands in a lent area, a row of n + 1 bytes for each equation, column n the right-hand side. `Eliminated` of specs/System.antt says what is promised.
+#![tactic(auto)]
+
 ghost use Rattle.std.specs.Prelude.{◌≡◌, ℕ, ◌+◌, ◌*◌, ◌<◌, ◌≤◌, length};
 ghost use Rattle.sets.specs.Sets.{most_row};
 ghost use Rattle.ground.specs.Segment.{Segment};

@@ -2,6 +2,8 @@
 // Elements of F16[S] by Algorithm 1, determinants, and matrices made invertible by Algorithm 2.
 // The three functions of this file are for everybody: they ask nothing of the caller and refuse what they cannot take.
 // What the modules offer is for our own crates: some of it has conditions, which the callers' proofs show.
+#![tactic(auto)]
+
 mod arithmetic;
 mod blocks;
 mod determinants;

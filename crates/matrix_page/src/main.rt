@@ -1,5 +1,7 @@
 // Runs page 01's examples on matrices and writes what comes out, one example to a line; the file `stdout` has what page 01 says.
 // A line of an algorithm has the answer's number first and then the four entries, row by row.
+#![tactic(auto)]
+
 use ground::number;
 use libc::STDOUT_FILENO;
 use matrix::{Made, Value, determinant_of, make_invertible, ring_element, s_power};

@@ -1,5 +1,7 @@
 // The model: SNOVA version 2 over GF(16), page 01. Here stand the functions that users call; each crate below has one of them, with its contract and its proof.
 // What they promise together, the user's three sentences, is in specs/Sentences.antt; `chain` is the function that really calls the three operations.
+#![tactic(auto)]
+
 mod chain;
 
 pub use chain::sign_and_verify;

@@ -1,5 +1,7 @@
 // Two elements to a byte. In a packed stream the low half of a byte is the earlier element, and an odd count leaves a spare high half:
 // packing writes zero there, and readers do not look at it. What an element, a packed and an unpacked list are stands in specs/Packing.antt.
+#![tactic(auto)]
+
 ghost use Rattle.std.specs.Prelude.{◌≡◌, ◌+◌, ◌*◌, ◌/◌, ◌%◌, ◌<◌, ◌≤◌, true, length};
 ghost use Rattle.ground.specs.Answers.{first};
 ghost use Rattle.packing.specs.Packing.{packed_bytes, byte_of, packed, unpacked, in_field, pack_rules, unpack_rules, Packs, Unpacks};

@@ -1,5 +1,7 @@
 // Page 01's packing example, run: bytes 2A F7 hold the three elements 10, 2, 7, and packing these writes 2A 07.
 // Then each refusal, with the buffer that it leaves as it was. Every line is what a call answered and what its buffer held after it.
+#![tactic(auto)]
+
 use ground::Answer;
 use libc::STDOUT_FILENO;
 

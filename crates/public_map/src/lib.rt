@@ -1,5 +1,7 @@
 // The values of the public map of a key at a list of matrices. All powers of S are taken at once: for each matrix index the sums over j and k are formed once for every
 // pair of powers (`sums`, over the block rows of `block_rows`), and each equation is put together from them (`values`).
+#![tactic(auto)]
+
 mod block_rows;
 mod sums;
 mod values;

@@ -1,5 +1,7 @@
 // Prints count, mlen and smlen of each entry of a response file on standard input, a line each, and "refused" with the number at a refusal.
 // The file may be of any size: it is read in pieces of 64 KiB, and only the reader's state is kept from one to the next.
+#![tactic(auto)]
+
 ghost use Rattle.std.specs.Prelude.{◌≡◌};
 ghost use Rattle.response_machine.specs.Reads.{fed};
 

@@ -1,5 +1,7 @@
 // The refusal that each operation gives for the lengths that it was lent: the first number in the operation's order whose condition holds, or 0.
 // Only the buffers that the operation takes are looked at. An output of another length is 20, whatever it is to hold.
+#![tactic(auto)]
+
 ghost use Rattle.std.specs.Prelude.{◌≡◌};
 ghost use Rattle.ground.specs.Answers.{first};
 ghost use Rattle.refusals.specs.Rules.{keygen_rules, sign_rules, verdict_rules, salt_rules};

@@ -1,6 +1,7 @@
 // The format of the published response files, page 02, Req 01: what an accepted file is, what is refused, what a file tells.
 // Theory alone. The types are those that a reader's events and answers are made of; what has to be believed stands in
 // specs/Fields, Format, Rules, Tells, Lent and Text.
+#![tactic(auto)]
 
 // The numbers of an entry.
 #[derive(Drop)]

@@ -1,5 +1,7 @@
 // The reader's machine, byte by byte: theory. The types are the code's own; specs/Machine says what each byte does, and Reads, Events and Seeks prove that this
 // means the format of response_format. The code stands in responses, so that an edit of it does not check the theory again.
+#![tactic(auto)]
+
 use response_format::{Event, Numbers};
 
 // What a line has come to, from its first byte to the last one read.

@@ -1,6 +1,8 @@
 // The reader of the published response files, page 02, Req 01.
 // The reader is a state by value: `start`, `step` for a byte, `feed` for a piece, `end`. Beside it: the refusal of a whole file, a value decoded, a field collected,
 // the text of what is told. What is meant stands in response_format, what the reader does byte by byte in response_machine.
+#![tactic(auto)]
+
 mod collecting;
 mod reading;
 mod telling;

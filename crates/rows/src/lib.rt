@@ -1,5 +1,7 @@
 // Byte rows, an element to a byte: a part of a row gains a scalar times a row, elements of a packed stream, or a sum of such terms.
 // Key generation, the verdict, signing and elimination do their work by these. `Plus` of specs/Plus.antt says what a part gains.
+#![tactic(auto)]
+
 ghost use Rattle.std.specs.Prelude.{◌≡◌, ℕ, ◌+◌, ◌*◌, ◌<◌, ◌≤◌, length, get_or};
 ghost use Rattle.field.specs.Field.{mul};
 ghost use Rattle.packing.specs.Packing.{element};

@@ -1,4 +1,6 @@
 // The salt of a signature: a part of the caller's own bytes, handed back; and the number that says whether set and length fit.
+#![tactic(auto)]
+
 ghost use Rattle.std.specs.Prelude.{◌≡◌, ◌+◌};
 ghost use Rattle.salt.specs.Salt.{salt_start, salt_of, SaltStatus};
 

@@ -1,4 +1,6 @@
 // The salt of a signature, run for the set (1,1,2): 4 bytes of elements, then 16 of salt. Each line is the number of the second call, and the bytes that were handed back.
+#![tactic(auto)]
+
 use libc::STDOUT_FILENO;
 use sets::Set;
 

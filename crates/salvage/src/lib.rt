@@ -1,5 +1,7 @@
 // The salvage of a bad card (page 02, Req 14): every good block of an exercise that is not spoiled goes into a new book, and a list tells what became of each old block.
 // Four passes: `judging` lists each block's fault, `marking` marks the spoiled exercises, `listing` lists the blocks that they spoil, `keeping` writes what is kept.
+#![tactic(auto)]
+
 mod judging;
 mod keeping;
 mod listing;

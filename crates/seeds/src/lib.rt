@@ -1,5 +1,7 @@
 // The streams that the two seeds define, each into a lent buffer: as many of its first bytes as the buffer holds.
 // What is hashed stands in pieces and is absorbed piece by piece: no buffer holds the whole.
+#![tactic(auto)]
+
 mod expansion;
 
 ghost use Rattle.std.specs.Prelude.{◌≡◌, length};

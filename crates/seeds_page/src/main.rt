@@ -1,5 +1,7 @@
 // The streams of two seeds, run: the public stream over three blocks, ABQ from the letters and behind the public stream, private, target, and vinegar of two tries.
 // What is printed was compared with an outside program's answers.
+#![tactic(auto)]
+
 use libc::STDOUT_FILENO;
 use sets::Set;
 

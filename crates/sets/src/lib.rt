@@ -1,5 +1,7 @@
 // Parameter sets, and the exact length of every stream and buffer.
 // `allowed` decides page 01's limits; `count` has the numbers of elements, `length` a function for each length, `rooms` the sizes of local buffers.
+#![tactic(auto)]
+
 mod count;
 mod length;
 mod rooms;

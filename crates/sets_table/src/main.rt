@@ -1,5 +1,7 @@
 // Writes page 01's table of lengths and the cases that end its pages for the course: sets inside and outside the limits, signatures of 247 to 249 bytes.
 // Then further sets outside the limits. It only writes what the crates `sets` and `salt` answer.
+#![tactic(auto)]
+
 use libc::STDOUT_FILENO;
 use sets::Set;
 

@@ -1,5 +1,7 @@
 // SHAKE128 and SHAKE256 of FIPS 202. A sponge takes a message in any number of pieces, without a buffer for the whole, and gives any number of bytes.
 // `shake128` and `shake256` are for everybody. `fresh`, `absorb` and `extract` are for our own crates, which hash a message that stands in pieces.
+#![tactic(auto)]
+
 ghost use Rattle.std.specs.Prelude.{◌≡◌, ◌+◌, ◌*◌, ◌<◌, ◌≤◌, length};
 ghost use Rattle.ground.specs.Fill.{tab};
 ghost use Rattle.ground.specs.Segment.{Segment};

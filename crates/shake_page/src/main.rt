@@ -1,5 +1,7 @@
 // The well-known answers of SHAKE128 and SHAKE256, run: the empty message and 200 bytes A3, 512 bytes of output each, which is over several blocks;
 // then messages and outputs that end at a block's border or beside it. What is printed was compared with an outside program's answers.
+#![tactic(auto)]
+
 use libc::STDOUT_FILENO;
 
 fn wide(x: u8) -> u64 {

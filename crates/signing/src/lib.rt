@@ -1,5 +1,7 @@
 // Signing (document 000, Algorithm 7): the vinegar fixes the first v matrices of X, the linear system gives the oil, and the signature holds the U whose image is X.
 // `Signs` of specs/Signs.antt is the promise; specs/Unique.antt shows that it has one outcome and that what is emitted is accepted.
+#![tactic(auto)]
+
 mod numbers;
 mod solving;
 mod writing;

@@ -1,5 +1,7 @@
 // Signs page-sized cases of the sets (1,1,2) and (2,2,3), verifies what was signed under the generated key, and writes the numbers and the bytes.
 // The streams are filled by a rule, so that anyone can make them again. Outputs start as EE: a redo shows that the signature was left alone.
+#![tactic(auto)]
+
 use libc::STDOUT_FILENO;
 use sets::Set;
 

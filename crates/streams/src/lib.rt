@@ -1,6 +1,8 @@
 // Reading the packed streams: to the code what scheme's Streams is to the meaning. The numbers of blocks of P
 // (`numbers`) and of the parts of a term (`places`) stand here and nowhere else. Blocks are read (`blocks`), or laid out element after element (`laid`); coefficients go by Algorithm 1's rule
 // (`coefficients`); and `read_term` gathers what term (i, alpha) of an equation needs.
+#![tactic(auto)]
+
 mod blocks;
 mod coefficients;
 mod laid;

@@ -1,5 +1,7 @@
 // Tables of bytes that key generation, the verdict and signing share: the powers of S, the private matrix T12, the powers of S times a list of matrices,
 // rows of products of a stream's blocks with such a table, and products of whole tables. A table with rows of w bytes holds block (j, k) at rows j·l .. and columns k·l .. .
+#![tactic(auto)]
+
 mod powers;
 mod private;
 mod products;

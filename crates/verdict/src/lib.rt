@@ -1,4 +1,6 @@
 // The verdict: the values of the public map at a signature's matrices, compared with the target (`compare`). The salt is not read.
+#![tactic(auto)]
+
 mod compare;
 mod numbers;
 

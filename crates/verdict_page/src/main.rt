@@ -1,5 +1,7 @@
 // Writes verdicts for the set (1,1,2) and streams of zeros: page 01's 0 for a signature of zeros and a target of zeros, 1 for another target, and the number of each refusal
 // that a length or a set can give. It only writes what the crate `verdict` answers.
+#![tactic(auto)]
+
 use libc::STDOUT_FILENO;
 use sets::Set;
 

@@ -1,6 +1,8 @@
 // Rows of up to sixteen elements as words: element c of a row is nibble c of a word, so that two rows are added by one exclusive or.
 // A table of words holds eight multiples of each row of a byte table, those by 0, 1, 2, 3 and by 0, 4, 8, 12: a row times a scalar is the sum of two of them.
 // Sums of many short rows, as the verdict and signing have them, cost little then.
+#![tactic(auto)]
+
 ghost use Rattle.std.specs.Prelude.{◌≡◌, ℕ, ◌+◌, ◌*◌, ◌<◌, ◌≤◌, length};
 ghost use Rattle.rows.specs.Plus.{Plus};
 ghost use Rattle.words.specs.Words.{nibble};

@@ -2,12 +2,11 @@
 -- Rests on linear arithmetic alone.
 use native.Mathlib.Omega.{arith}
 use Rattle.packing.specs.Packing.{packed_bytes}
-use Rattle.packing.proofs.packed_bytes.Statement.{statement}
-use Rattle.packing.proofs.packed_bytes.Tie as tie
+use Rattle.packing.proofs.packed_bytes.Goals as goal
 
-returns : tie.Need-returns
+pub returns : goal.returns
 unfolding packed_bytes
 returns c = omega arith
 
-pub packed-bytes-spec : {M : Type 1} → statement M
-packed-bytes-spec = tie.close (tie.spec (λ c. omega arith) returns)
+pub overflow_add-result : goal.overflow_add-result
+overflow_add-result c = omega arith

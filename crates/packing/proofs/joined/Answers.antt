@@ -4,14 +4,10 @@ use mathlib.Core.Path.{◌≡◌, ap, ◌∙◌}
 use Prim.Native.Nat.{◌*◌, ◌%◌}
 use native.Mathlib.Omega.{arith}
 use lib.Bits.{bit_or, or_shifted_r}
-use Rattle.packing.proofs.joined.Statement.{statement}
-use Rattle.packing.proofs.joined.Tie as tie
+use Rattle.packing.proofs.joined.Goals as goal
 
-returns : tie.Need-returns
+pub returns : goal.returns
 returns c =
     let a = c.args in
     let kept : a.high * 16 % 256 ≡ a.high * 16 = omega arith in
     ap (bit_or a.low) kept ∙ or_shifted_r a.high 4 a.low c.requires.0 ∙ omega arith
-
-pub joined-spec : {M : Type 1} → statement M
-joined-spec = tie.close (tie.spec returns)
