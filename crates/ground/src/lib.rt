@@ -7,7 +7,7 @@ ghost use Rattle.ground.specs.Pick.{pick};
 ghost use Rattle.ground.specs.Answers.{answer_of, number_of};
 
 // An answer with no data: done, or refused by one of page 01's numbers.
-#[derive(Drop)]
+#[derive(Clone, Copy)]
 pub enum Answer {
     Done,
     Refused(u32),

@@ -16,21 +16,21 @@ ghost use Rattle.linear.specs.Progress.{Progress};
 use sets::MOST_ROW;
 
 // A row held apart from the area: up to 160 elements, and the right-hand element.
-#[derive(Drop)]
+#[derive(Clone, Copy)]
 pub struct Row {
     pub elements: [u8; MOST_ROW],
     pub right: u8,
 }
 
 // A row that a search found, or that there is none.
-#[derive(Drop)]
+#[derive(Clone, Copy)]
 pub enum Found {
     At(usize),
     Nothing,
 }
 
 // Singular: some vector that is not zero is sent to zero.
-#[derive(Drop)]
+#[derive(Clone, Copy)]
 pub enum Outcome {
     Solved,
     Singular,

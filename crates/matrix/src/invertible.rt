@@ -33,7 +33,7 @@ pub fn shifted(l: usize, m: Block, a: u8) -> Block
 }
 
 // One try of the search: the original matrix, the shift a, and the original plus typeof.a.S.
-#[derive(Drop)]
+#[derive(Clone, Copy)]
 pub struct Trial {
     original: Block,
     a: u8,

@@ -22,14 +22,14 @@ use refusals::{checked, coefficients_checked};
 pub use ring::{coefficient, combination, last_coefficient, one, s_matrix, s_power};
 
 // What an algorithm answers, and beside it the block that it made: zeros where it refuses.
-#[derive(Drop)]
+#[derive(Clone, Copy)]
 pub struct Made {
     pub answer: Answer,
     pub block: [u8; BYTES],
 }
 
 // The determinant of a matrix, or a refusal.
-#[derive(Drop)]
+#[derive(Clone, Copy)]
 pub enum Value {
     Is(u8),
     Refused(u32),

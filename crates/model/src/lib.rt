@@ -14,7 +14,7 @@ pub use signing::{Signing, sign};
 pub use verdict::{Verdict, verify};
 
 // What becomes of key generation, signing and the verdict, called one after the other.
-#[derive(Drop)]
+#[derive(Clone, Copy)]
 pub enum Outcome {
     Accepted,
     NotAccepted,

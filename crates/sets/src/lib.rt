@@ -36,7 +36,7 @@ pub const MOST_ROW: usize = 160;
 pub const SALT_BYTES: usize = 16;
 
 // A parameter set (v, o, l): v vinegar and o oil variables, each an l by l matrix.
-#[derive(Drop)]
+#[derive(Clone, Copy)]
 pub struct Set {
     pub v: usize,
     pub o: usize,

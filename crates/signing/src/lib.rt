@@ -20,7 +20,7 @@ use writing::emit;
 
 // Done: the output holds the signature. Redo: some oil choice, not all zero, is sent to zero, and the host tries again with another vinegar.
 // Refused: page 01's number.
-#[derive(Drop)]
+#[derive(Clone, Copy)]
 pub enum Signing {
     Done,
     Redo,

@@ -19,7 +19,7 @@ pub use places::{a_number, b_number, matrix_index, q1_number, q2_number};
 pub use reading::read_term;
 
 // The parts of a term of an equation: A and B, which Algorithm 2 has made invertible, the coefficients of Q1 and Q2 with zeros behind them, and the index of its matrix P.
-#[derive(Drop)]
+#[derive(Clone, Copy)]
 pub struct Term {
     pub a: Block,
     pub b: Block,

@@ -13,7 +13,7 @@ pub use numbers::number;
 use sets::Set;
 
 // What verification answers: accepted is page 01's 0, not accepted its 1.
-#[derive(Drop)]
+#[derive(Clone, Copy)]
 pub enum Verdict {
     Accepted,
     NotAccepted,

@@ -2,11 +2,7 @@
 -- A callee with no `requires` asks nothing: `(λ _ _. tt)`.
 use mathlib.Core.Path.{sym, ◌∙◌}
 use Rattle.field.specs.Powers.{inverse-is-fourteenth}
-use Rattle.field.proofs.inverse.Statement.{statement}
-use Rattle.field.proofs.inverse.Tie as tie
+use Rattle.field.proofs.inverse.Goals as goal
 
-returns : tie.Need-returns
+pub returns : goal.returns
 returns c = c.power.ensures ∙ sym (inverse-is-fourteenth _)
-
-pub inverse-spec : {M : Type 1} → statement M
-inverse-spec = tie.close (tie.spec (λ _ _. tt) returns)

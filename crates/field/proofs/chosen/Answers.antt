@@ -1,0 +1,16 @@
+-- `field::chosen` meets its contract: the code mirrors the definition; a byte times a digit below 2 is a byte.
+use mathlib.Core.Path.{ap}
+use Prim.Native.Nat.{ℕ, ◌*◌, ◌/◌, ◌%◌, ◌<◌}
+use native.Mathlib.Nat.{mul-le-mul, le_refl}
+use mir.Syntax.{w8}
+use mir.Val.{Fits}
+use lib.Bits.{bit_xor}
+use Rattle.field.specs.Field.{chosen_of}
+use native.Mathlib.Omega.{arith}
+use Rattle.field.proofs.chosen.Goals as goal
+
+pub returns : goal.returns
+unfolding chosen_of
+returns c =
+    let a = c.args in
+    ap (λ x. bit_xor x (bit_xor (a.x2 * (a.b / 2 % 2)) (bit_xor (a.x4 * (a.b / 4 % 2)) (a.x8 * (a.b / 8 % 2))))) c.low_chosen.ensures

@@ -1,0 +1,19 @@
+-- `sets::count::public_count` meets its contract: the bounds have every product, so nothing wraps, and the definition written out.
+use mathlib.Core.Path.{sym}
+use Prim.Native.Nat.{◌+◌, ◌*◌, ◌≤◌}
+use native.Mathlib.Omega.{arith}
+use native.Mathlib.Nat.{mul-le-mul, mul-le-mul_left}
+use Rattle.sets.specs.declared.Set.{Set}
+use Rattle.sets.specs.Sets.{most_v, most_o}
+use Rattle.sets.specs.Bounds.{Bounds}
+use Rattle.sets.proofs.count.public_count.Goals as goal
+
+-- the blocks of P12 and P21, and all blocks of one equation
+p12-and-p21 : {s : Set} → Bounds s → 2 * s.v * s.o ≤ 2 * most_v * most_o
+p12-and-p21 b = mul-le-mul (mul-le-mul_left 2 b.limits.v-most) b.limits.o-most
+
+per-equation : {s : Set} → Bounds s → s.v * s.v + 2 * s.v * s.o ≤ most_v * most_v + 2 * most_v * most_o
+per-equation b = omega (arith, b.products.vv, p12-and-p21 b)
+
+pub returns : goal.returns
+returns c = sym c.requires.counts.public

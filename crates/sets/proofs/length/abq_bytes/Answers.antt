@@ -1,0 +1,18 @@
+-- `sets::length::abq_bytes` meets its contract: an allowed set has its bounds, so the count is asked for; any other set answers 0.
+-- A callee with no `requires` asks nothing: `(λ _ _. tt)`.
+use mathlib.Core.Path.{refl, sym, ◌∙◌, ap}
+use Rattle.ground.specs.Pick.{picked_first, picked-second}
+use Rattle.sets.specs.Sets.{bytes_for, abq_bytes}
+use Rattle.sets.specs.Bounds.{bounds}
+use Rattle.sets.proofs.length.abq_bytes.Goals as goal
+
+pub abq_count-requires : goal.abq_count-requires
+abq_count-requires c = bounds _ (sym c.allowed.ensures ∙ c.if-allowed.true)
+
+pub returns-then-allowed : goal.returns-then-allowed
+unfolding abq_bytes
+returns-then-allowed c =
+    picked_first 0 c.allowed.ensures c.if-allowed.true (c.bytes_for.ensures ∙ ap bytes_for c.abq_count.ensures)
+
+pub returns-else-allowed : goal.returns-else-allowed
+returns-else-allowed c = picked-second _ c.allowed.ensures c.if-allowed.false refl
