@@ -2,6 +2,7 @@
 -- A callee with no `requires` asks nothing: `(λ _ _. tt)`.
 use mathlib.Core.Path.{refl, sym, ◌∙◌, ap}
 use Prim.Native.Nat.{◌+◌}
+use native.Mathlib.Omega.{arith}
 use Rattle.ground.specs.Pick.{picked_first, picked-second}
 use Rattle.sets.specs.Sets.{bytes_for, salt_bytes, signature_bytes}
 use Rattle.sets.specs.Bounds.{bounds}
@@ -9,6 +10,11 @@ use Rattle.sets.proofs.length.signature_bytes.Goals as goal
 
 pub signature_count-requires : goal.signature_count-requires
 signature_count-requires c = bounds _ (sym c.allowed.ensures ∙ c.if-allowed.true)
+
+pub overflow_add-result : goal.overflow_add-result
+overflow_add-result c =
+    let b = bounds _ (sym c.allowed.ensures ∙ c.if-allowed.true) in
+    omega (arith, c.bytes_for.ensures, c.signature_count.ensures, b.sizes.signature)
 
 pub returns-then-allowed : goal.returns-then-allowed
 unfolding signature_bytes
