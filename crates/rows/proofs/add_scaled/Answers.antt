@@ -1,0 +1,24 @@
+-- `rows::add_scaled` meets its contract. The loop's invariant: dst is the row at entry with the first i bytes gained. The byte gained is s · b (`mul-chosen`).
+use mathlib.Core.Path.{refl, ◌∙◌}
+use native.Mathlib.Omega.{arith}
+use borrow.Author.Rules.{rules}
+use Rattle.field.specs.Field.{add}
+use Rattle.field.specs.Laws.{mul-chosen}
+use Rattle.rows.specs.Plus.{plus_none, plus-next, plus-end}
+use Rattle.rows.proofs.add_scaled.Goals as goal
+
+pub loop-i-init : goal.loop-i-init
+loop-i-init c = (search rules, plus_none)
+
+pub loop-i-preserved : goal.loop-i-preserved
+unfolding add
+loop-i-preserved c =
+    (
+      search rules,
+      plus-next c.loop-i.invariant.1 (omega arith) c.chosen.result
+          (c.chosen.ensures
+          ∙ mul-chosen c.args.s _ _ _ _ _ refl c.twice-s2.ensures c.twice-s4.ensures c.twice-s8.ensures),
+    )
+
+pub returns : goal.returns
+returns c = plus-end c.loop-i.invariant.1 c.loop-i.invariant.0 c.loop-i-test.false
