@@ -1,0 +1,44 @@
+-- `streams::numbers::p21_number` meets its contract: the block row lies within its stream, which has few blocks.
+use Rattle.streams.specs.Numbers.{starts, p21-fits, RowNumber, p21-row}
+use native.Mathlib.Omega.{arith}
+use Rattle.streams.proofs.numbers.p21_number.Goals as goal
+
+pub overflow_mul-result : goal.overflow_mul-result
+overflow_mul-result c = omega (arith, c.requires.0.products.vv)
+
+pub overflow_mul-result-2 : goal.overflow_mul-result-2
+overflow_mul-result-2 c = omega (arith, c.requires.0.products.vvo)
+
+pub overflow_mul-result-3 : goal.overflow_mul-result-3
+overflow_mul-result-3 c = omega (arith, c.requires.0.products.vo)
+
+pub overflow_mul-result-4 : goal.overflow_mul-result-4
+overflow_mul-result-4 c = omega (arith, c.requires.0.products.voo)
+
+pub overflow_add-result : goal.overflow_add-result
+overflow_add-result c =
+    omega (arith, c.requires.0.products.vvo, c.requires.0.products.voo)
+
+pub overflow_mul-result-5 : goal.overflow_mul-result-5
+overflow_mul-result-5 c =
+    let row : RowNumber c.args.set.o c.args.set.v c.args.i c.args.k = p21-row c.requires.0 c.requires.1 c.requires.2 in
+    omega (arith, row.matrix)
+
+pub overflow_add-result-2 : goal.overflow_add-result-2
+overflow_add-result-2 c =
+    let row : RowNumber c.args.set.o c.args.set.v c.args.i c.args.k = p21-row c.requires.0 c.requires.1 c.requires.2 in
+    omega (arith, row.row)
+
+pub overflow_mul-result-6 : goal.overflow_mul-result-6
+overflow_mul-result-6 c =
+    let row : RowNumber c.args.set.o c.args.set.v c.args.i c.args.k = p21-row c.requires.0 c.requires.1 c.requires.2 in
+    omega (arith, row.block)
+
+pub overflow_add-result-3 : goal.overflow_add-result-3
+overflow_add-result-3 c =
+    let row : RowNumber c.args.set.o c.args.set.v c.args.i c.args.k = p21-row c.requires.0 c.requires.1 c.requires.2 in
+    omega (arith, row.block, c.requires.0.products.vvo, c.requires.0.products.voo)
+
+pub returns : goal.returns
+returns c =
+    starts (omega arith) (p21-fits c.args.set c.requires.1 c.requires.2)

@@ -1,0 +1,18 @@
+-- `streams::b_number` meets its contract. Rests on the bounds of an allowed set.
+use mathlib.Core.Path.{ap₂}
+use Prim.Native.Nat.{◌+◌}
+use Rattle.streams.specs.TermPlaces.{a_lt}
+use native.Mathlib.Omega.{arith}
+use Rattle.streams.proofs.places.b_number.Goals as goal
+
+pub all_terms-requires : goal.all_terms-requires
+all_terms-requires c = c.requires.bounds
+
+pub a_number-requires : goal.a_number-requires
+a_number-requires c = c.requires
+
+pub overflow_add-result : goal.overflow_add-result
+overflow_add-result c = let p = c.requires in omega (arith, c.all_terms.ensures, c.a_number.ensures, a_lt p, p.bounds.sizes.all-terms)
+
+pub returns : goal.returns
+returns c = ap₂ ◌+◌ c.all_terms.ensures c.a_number.ensures

@@ -1,0 +1,64 @@
+-- `streams::read_term` meets its contract: the parts stand at their numbers, and no block is refused (`a-is`, `b-is`).
+use mathlib.Core.Path.{subst}
+use Prim.Native.Nat.{◌*◌, ◌<◌}
+use Rattle.ground.specs.Segment.{Segment}
+use Rattle.rows.specs.Zero.{zeros}
+use Rattle.matrix.specs.Block.{stride}
+use Rattle.matrix.specs.RingElements.{coefficient}
+use Rattle.sets.specs.Sets.{all_terms}
+use Rattle.scheme.specs.Streams.{group_of}
+use Rattle.streams.specs.TermPlaces.{size-allowed, a-within, b-within, q1-within, q2-within, block_within, group-within}
+use Rattle.streams.specs.TermOf.{a-is, b-is}
+use native.Mathlib.Omega.{arith}
+use Rattle.streams.proofs.reading.read_term.Goals as goal
+
+pub a_number-requires : goal.a_number-requires
+a_number-requires c = c.requires.term_place
+
+pub invertible_at-made_a-requires : goal.invertible_at-made_a-requires
+invertible_at-made_a-requires c =
+    let t = c.requires.term_place in
+    let within : c.a_number.result < 2 * all_terms c.args.set = omega (arith, c.a_number.ensures, a-within t) in
+    (size-allowed t.bounds.limits, block_within t.bounds c.args.abq.now c.requires.abq_lent.long within)
+
+pub b_number-requires : goal.b_number-requires
+b_number-requires c = c.requires.term_place
+
+pub invertible_at-made_b-requires : goal.invertible_at-made_b-requires
+invertible_at-made_b-requires c =
+    let t = c.requires.term_place in
+    let within : c.b_number.result < 2 * all_terms c.args.set = omega (arith, c.b_number.ensures, b-within t) in
+    (size-allowed t.bounds.limits, block_within t.bounds c.args.abq.now c.requires.abq_lent.long within)
+
+pub q1_number-requires : goal.q1_number-requires
+q1_number-requires c = c.requires.term_place
+
+pub coefficients_of-q1-requires : goal.coefficients_of-q1-requires
+coefficients_of-q1-requires c =
+    let t = c.requires.term_place in
+    (t.bounds.limits.l-most, group-within t.bounds c.args.abq.now c.requires.abq_lent.long (rw c.q1_number.ensures (q1-within t)))
+
+pub q2_number-requires : goal.q2_number-requires
+q2_number-requires c = c.requires.term_place
+
+pub coefficients_of-q2-requires : goal.coefficients_of-q2-requires
+coefficients_of-q2-requires c =
+    let t = c.requires.term_place in
+    (t.bounds.limits.l-most, group-within t.bounds c.args.abq.now c.requires.abq_lent.long (rw c.q2_number.ensures (q2-within t)))
+
+pub matrix_index-index-requires : goal.matrix_index-index-requires
+matrix_index-index-requires c = c.requires.term_place
+
+pub returns : goal.returns
+returns c =
+    let l = c.args.set.l in
+    let abq = c.args.abq.now in
+    record {
+      a = a-is c.requires.term_place abq c.requires.abq_lent c.a_number.ensures c.invertible_at-made_a.ensures;
+      b = b-is c.requires.term_place abq c.requires.abq_lent c.b_number.ensures c.invertible_at-made_b.ensures;
+      q1 = subst (λ g. Segment (zeros stride) 0 l (coefficient l (group_of l abq g)) c.coefficients_of-q1.result) c.q1_number.ensures
+          c.coefficients_of-q1.ensures;
+      q2 = subst (λ g. Segment (zeros stride) 0 l (coefficient l (group_of l abq g)) c.coefficients_of-q2.result) c.q2_number.ensures
+          c.coefficients_of-q2.ensures;
+      index = c.matrix_index-index.ensures;
+    }
