@@ -9,7 +9,7 @@ use Rattle.linear.specs.Row.{row_at}
 use Rattle.linear.proofs.clear_column.Given as goal
 
 abbrev pub invariant-loop-r : goal.invariant-loop-r
-invariant-loop-r l = (l.r ≤ l.n) × PlusRows l.initial.g 0 l.r (l.n + 1) (λ l.r c. mul (factor l.k (at l.initial.g l.n) l.r) (row_at l.row l.n c)) l.g
+invariant-loop-r l = (l.r ≤ l.n) × PlusRows l.initial.g 0 l.r (l.n + 1) (λ r c. mul (factor l.k (at l.initial.g l.n) r) (row_at l.row l.n c)) l.g
 
 abbrev pub decreases-loop-r : goal.decreases-loop-r
 decreases-loop-r l = l.n - l.r
