@@ -30,19 +30,35 @@ add_scaled-requires c =
     let here : Within c.loop-r.g c.args.n c.loop-r.r =
     let pre = c.requires in
     within _ pre.0 (omega (arith, pre.1.0, c.loop-r.invariant.1.long)) c.loop-r-test.true in
-    (omega (arith, here), omega (arith, c.add_scaled-arg-in-loop-r-2-1.given.0, c.requires.0))
+    (omega (arith, here), omega (arith, c.add_scaled-arg-in-loop-r-2-1.given, c.requires.0))
 
 pub overflow_mul-g : goal.overflow_mul-g
-overflow_mul-g c = omega (arith, here c)
+overflow_mul-g c =
+    let here : Within c.loop-r.g c.args.n c.loop-r.r =
+    let pre = c.requires in
+    within _ pre.0 (omega (arith, pre.1.0, c.loop-r.invariant.1.long)) c.loop-r-test.true in
+    omega (arith, here)
 
 pub overflow_add-g-in-loop-r : goal.overflow_add-g-in-loop-r
-overflow_add-g-in-loop-r c = omega (arith, here c)
+overflow_add-g-in-loop-r c =
+    let here : Within c.loop-r.g c.args.n c.loop-r.r =
+    let pre = c.requires in
+    within _ pre.0 (omega (arith, pre.1.0, c.loop-r.invariant.1.long)) c.loop-r-test.true in
+    omega (arith, here)
 
 pub bounds-g-r : goal.bounds-g-r
-bounds-g-r c = omega (arith, c.add_scaled.auto.dst, here c)
+bounds-g-r c =
+    let here : Within c.loop-r.g c.args.n c.loop-r.r =
+    let pre = c.requires in
+    within _ pre.0 (omega (arith, pre.1.0, c.loop-r.invariant.1.long)) c.loop-r-test.true in
+    omega (arith, c.add_scaled.auto.dst, here)
 
 pub bounds-g-r-in-loop-r : goal.bounds-g-r-in-loop-r
-bounds-g-r-in-loop-r c = omega (arith, c.add_scaled.auto.dst, here c)
+bounds-g-r-in-loop-r c =
+    let here : Within c.loop-r.g c.args.n c.loop-r.r =
+    let pre = c.requires in
+    within _ pre.0 (omega (arith, pre.1.0, c.loop-r.invariant.1.long)) c.loop-r-test.true in
+    omega (arith, c.add_scaled.auto.dst, here)
 
 pub loop-r-preserved : goal.loop-r-preserved
 unfolding add

@@ -10,7 +10,7 @@ use Rattle.tables.proofs.sums.add_left.Given as goal
 abbrev pub invariant-loop-j : goal.invariant-loop-j
 invariant-loop-j l =
     (length l.buffer ≡ vinegar_room)
-    × Summing l.initial.dst l.at l.m (l.count * l.l) l.v (λ l.j. transposed_gain l.x (l.j * (l.l * l.m)) l.m l.l (blocks_row l.l l.stream (l.number + l.j * l.count))) l.j l.dst
+    × Summing l.initial.dst l.at l.m (l.count * l.l) l.v (λ j. transposed_gain l.x (j * (l.l * l.m)) l.m l.l (blocks_row l.l l.stream (l.number + j * l.count))) l.j l.dst
 
 abbrev pub decreases-loop-j : goal.decreases-loop-j
 decreases-loop-j l = l.v - l.j
