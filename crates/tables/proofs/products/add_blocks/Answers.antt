@@ -34,7 +34,7 @@ product_word-w-requires c =
     let laid = c.lay_blocks-place in
     (
       omega (arith, c.requires.l_in_bounds.0),
-      (omega (arith, row_inside.0, laid.ensures.early, laid.auto.0, c.requires.l_in_bounds.1.0), c.requires.l_in_bounds.1.1.0),
+      (omega (arith, row_inside.0, laid.ensures.early, laid.auto.flat, c.requires.l_in_bounds.1.0), c.requires.l_in_bounds.1.1.0),
     )
 
 pub overflow_mul-r-in-loop-r : goal.overflow_mul-r-in-loop-r

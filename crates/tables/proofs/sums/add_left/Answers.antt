@@ -33,7 +33,7 @@ load_blocks-requires c =
     let turn : LeftTurn c.args.l c.args.m c.args.number c.args.v c.args.count c.loop-j.j =
     let a = c.args in
     left-turn a.l a.m a.number a.v a.count c.requires.l_bound.1.0 c.loop-j-test.true in
-    omega record { l_in_bounds = arith; l_bound = turn }
+    record { l_in_bounds = omega (arith, turn); l_bound = omega (arith, turn) }
 
 pub overflow_mul-l : goal.overflow_mul-l
 overflow_mul-l c =
@@ -60,7 +60,7 @@ pub loop-j-preserved : goal.loop-j-preserved
 loop-j-preserved c =
     let a = c.args in
     let loaded = c.load_blocks in (
-      omega (arith, loaded.auto.0),
+      omega (arith, loaded.auto.dst),
       summing-next c.loop-j.invariant.1 c.loop-j-test.true
           (transposed-loaded a.x.now (c.loop-j.j * (a.l * a.m)) a.l c.add_transposed.ensures loaded.ensures),
     )
