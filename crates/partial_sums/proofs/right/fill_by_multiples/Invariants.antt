@@ -1,0 +1,17 @@
+-- `partial_sums::right::fill_by_multiples` meets its contract. The invariant: the rows of the first i matrix indices are there, in both tables. Rests on Filled.
+use mathlib.Core.Path.{◌≡◌}
+use Prim.Native.Nat.{◌*◌, ◌-◌}
+use lib.ListN.{length}
+use Rattle.sets.specs.Rooms.{vinegar_powers_room}
+use Rattle.partial_sums.specs.Products.{Stacking}
+use Rattle.partial_sums.specs.LeftRight.{right_row, sums_row}
+use Rattle.partial_sums.proofs.right.fill_by_multiples.Given as goal
+
+abbrev pub invariant-loop-i : goal.invariant-loop-i
+invariant-loop-i l =
+    (length l.y ≡ vinegar_powers_room)
+    × (Stacking l.initial.right (l.set.o * l.set.l) (l.set.l * l.set.l) l.set.o (right_row l.set l.public l.x l.t) l.i l.right
+    × Stacking l.initial.sums (l.set.l * l.set.l) (l.set.l * l.set.l) l.set.o (sums_row l.set l.public l.x) l.i l.sums)
+
+abbrev pub decreases-loop-i : goal.decreases-loop-i
+decreases-loop-i l = l.o - l.i

@@ -1,0 +1,29 @@
+-- `public_map::evaluate` meets its contract: the two tables, and the equations from them (`map-values`).
+use mathlib.Core.Path.{◌∙◌}
+use Rattle.rows.specs.Zero.{length-zeros}
+use Rattle.sets.specs.Rooms.{list_powers_room, power_sums_room, list-powers-room, sums-room}
+use Rattle.tables.specs.Unpacked.{list_of}
+use Rattle.public_map.specs.Values.{map-values}
+use native.Mathlib.Omega.{arith}
+use Rattle.public_map.proofs.evaluate.Goals as goal
+
+pub list_table-requires : goal.list_table-requires
+list_table-requires c =
+    record { bounds = c.requires.map_lent.bounds; l_in_bounds = (c.requires.l_in_bounds.0, list-powers-room c.requires.map_lent.bounds) }
+
+pub all_sums-requires : goal.all_sums-requires
+all_sums-requires c =
+    let lent = c.requires.map_lent in
+    let w = c.list_table.auto.w ∙ length-zeros list_powers_room in
+    record { bounds = lent.bounds; l_in_bounds = (sums-room lent.bounds, omega (arith, list-powers-room lent.bounds)); public_len = (lent.public-long, lent.key-long) }
+
+pub put_values-requires : goal.put_values-requires
+put_values-requires c =
+    let lent = c.requires.map_lent in
+    let sums = c.all_sums.auto.sums ∙ length-zeros power_sums_room in
+    record { bounds = (lent.bounds, lent.abq-lent); l_in_bounds = (c.requires.l_in_bounds.1, omega (arith, sums-room lent.bounds)) }
+
+pub returns : goal.returns
+returns c =
+    map-values c.requires.map_lent (list_of c.args.set.l c.args.list.now) c.list_table.ensures c.all_sums.ensures
+    c.put_values.ensures
