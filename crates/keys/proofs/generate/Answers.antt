@@ -1,7 +1,7 @@
 -- `keys::generate` meets its contract: by the number of the first rule that is not met, either the whole key is written or nothing.
 -- Rests on ground's `writes-by`, refusals' `keygen-fits` and on what `write_key` ensures.
 use mathlib.Core.Path.{sym, ap, ◌∙◌}
-use mathlib.Core.Logic.{⊎_map}
+use mathlib.Core.Logic.{inl, inr}
 use lib.ListN.{length}
 use Rattle.ground.specs.Answers.{answer_of}
 use Rattle.ground.specs.Outcome.{writes-by}
@@ -9,6 +9,7 @@ use Rattle.sets.specs.Bounds.{bounds}
 use Rattle.refusals.specs.Fits.{keygen-fits}
 use Rattle.scheme.specs.Refusals.{keygen_refusals}
 use Rattle.keys.proofs.generate.Goals as goal
+use Rattle.keys.proofs.generate.Goals.{then-refusal-eq0, else-refusal-eq0}
 
 pub write_key-requires : goal.write_key-requires
 write_key-requires c =
@@ -22,4 +23,7 @@ unfolding keygen_refusals
 returns c =
     let number = c.keygen_refusal-refusal.ensures in
     writes-by (c.answer_of.ensures ∙ ap answer_of number)
-    (⊎_map (λ w. (sym number ∙ w.0.taken, w.5 ∙ w.2.ensures)) (λ w. (λ z. w.0.left (number ∙ z), w.1)) c.if-refusal-eq0.branch)
+    (elim c.if-refusal-eq0.branch [
+      | then-refusal-eq0 w ↦ inl (sym number ∙ w.if-refusal-eq0.true, w.key-is ∙ w.write_key.ensures)
+      | else-refusal-eq0 w ↦ inr ((λ z. w.if-refusal-eq0.false (number ∙ z)), w.key-is)
+    ])

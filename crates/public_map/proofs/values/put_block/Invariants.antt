@@ -5,7 +5,7 @@ use Rattle.matrix.specs.Block.{view}
 use Rattle.public_map.proofs.values.put_block.Given as goal
 
 abbrev pub invariant-loop-e : goal.invariant-loop-e
-invariant-loop-e l = (l.e ≤ l.l * l.l) × Segment l.initial.values l.at l.e (λ l.e. view l.block (l.e / l.l) (l.e % l.l)) l.values
+invariant-loop-e l = (l.e ≤ l.l * l.l) × Segment l.initial.values l.at l.e (λ e. view l.block (e / l.l) (e % l.l)) l.values
 
 abbrev pub decreases-loop-e : goal.decreases-loop-e
 decreases-loop-e l = l.n - l.e
