@@ -1,0 +1,20 @@
+-- `system::blocks::combined` meets its contract. The invariant: the rows of the block have gained the first x terms. Rests on BlockRows, tables' Sums and Sides.
+use mathlib.Core.Path.{◌≡◌}
+use Prim.Native.Nat.{◌+◌, ◌*◌, ◌-◌}
+use lib.ListN.{length}
+use Rattle.matrix.specs.Block.{block_bytes, stride}
+use Rattle.rows.specs.Zero.{zeros}
+use Rattle.rows.specs.Tile.{tile}
+use Rattle.matrix.specs.Matrix.{scale_m}
+use Rattle.matrix.specs.Promises.{coefficients}
+use Rattle.tables.specs.Sums.{Summing}
+use Rattle.matrix.specs.BlockRows.{block_row}
+use Rattle.system.proofs.blocks.combined.Given as goal
+
+abbrev pub invariant-loop-x : goal.invariant-loop-x
+invariant-loop-x l =
+    (length l.sum ≡ block_bytes)
+    × Summing (zeros block_bytes) 0 l.l stride l.l (λ l.x. block_row l.l (scale_m (coefficients l.q l.x) (tile l.l l.w l.table (l.row + l.x * l.down) (l.column + l.x * l.across)))) l.x l.sum
+
+abbrev pub decreases-loop-x : goal.decreases-loop-x
+decreases-loop-x l = l.l - l.x
