@@ -14,7 +14,7 @@ use Rattle.system.proofs.blocks.combined.Given as goal
 abbrev pub invariant-loop-x : goal.invariant-loop-x
 invariant-loop-x l =
     (length l.sum ≡ block_bytes)
-    × Summing (zeros block_bytes) 0 l.l stride l.l (λ l.x. block_row l.l (scale_m (coefficients l.q l.x) (tile l.l l.w l.table (l.row + l.x * l.down) (l.column + l.x * l.across)))) l.x l.sum
+    × Summing (zeros block_bytes) 0 l.l stride l.l (λ x. block_row l.l (scale_m (coefficients l.q x) (tile l.l l.w l.table (l.row + x * l.down) (l.column + x * l.across)))) l.x l.sum
 
 abbrev pub decreases-loop-x : goal.decreases-loop-x
 decreases-loop-x l = l.l - l.x

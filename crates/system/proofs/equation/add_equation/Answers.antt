@@ -17,7 +17,7 @@ pub add_rows-requires : goal.add_rows-requires
 add_rows-requires c =
     let kept = c.add_terms-known.auto in
     let limits = c.requires.bounds.0.limits in
-    let fit = products-fit c.requires.bounds.0 in record { l_in_bounds = (c.requires.l_in_bounds, (omega (arith, limits.l-least), (omega (arith, limits.l-most), (table-sizes c.requires.bounds.0).oll))); stride_in_bounds = (omega (arith, fit, kept.0, length-zeros products_room), omega (arith, fit, kept.1.0, length-zeros products_room)) }
+    let fit = products-fit c.requires.bounds.0 in record { l_in_bounds = (c.requires.l_in_bounds, (omega (arith, limits.l-least), (omega (arith, limits.l-most), (table-sizes c.requires.bounds.0).oll))); stride_in_bounds = (omega (arith, fit, kept.lefts, length-zeros products_room), omega (arith, fit, kept.rights, length-zeros products_room)) }
 
 pub add_target-requires : goal.add_target-requires
 add_target-requires c =

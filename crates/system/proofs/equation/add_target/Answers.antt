@@ -85,7 +85,7 @@ add_scaled-requires c =
     let set = c.args.set in
     let limits = c.requires.bounds.0.limits in
     row-turn set.l (set.o * set.l * set.l + 1) (omega (arith, limits.l-least)) (omega (arith, limits.l-most)) c.loop-e-test.true in
-    let size : length c.args.t4 ≡ block_bytes = search rules in
+    let size : length c.args.known ≡ block_bytes = search rules in
     let here = turn in
     (omega (arith, here.row, c.requires.l_in_bounds.0, c.loop-e.invariant.so_far.long), omega (arith, here.high, here.low, c.requires.bounds.0.limits.l-most, size))
 

@@ -65,8 +65,8 @@ loop-alpha-preserved c =
       (added.auto.lefts ∙ inv.0.0, added.auto.rights ∙ inv.0.1),
       (
         (
-          summing-next inv.1.0.0 place.below (added.ensures.0 a.abq.now a.i c.loop-alpha.alpha term),
-          summing-next inv.1.0.1 place.below (added.ensures.1 a.abq.now a.i c.loop-alpha.alpha term),
+          summing-next inv.1.0.0 place.below (added.ensures.by_index a.abq.now a.i c.loop-alpha.alpha term),
+          summing-next inv.1.0.1 place.below (added.ensures.by_index_2 a.abq.now a.i c.loop-alpha.alpha term),
         ),
         (
           omega (arith, c.loop-alpha-test.true),

@@ -14,8 +14,8 @@ use Rattle.system.proofs.equation.add_terms.Given as goal
 abbrev pub invariant-loop-alpha : goal.invariant-loop-alpha
 invariant-loop-alpha l =
     ((length l.lefts ≡ length l.initial.lefts) × (length l.rights ≡ length l.initial.rights))
-    × ((Summing l.initial.lefts 0 (l.set.o * l.set.l * l.set.l) (l.set.l * stride) (terms l.set) (λ l.alpha. left_term l.set l.abq l.left l.right l.sp l.i l.alpha) l.alpha l.lefts
-    × Summing l.initial.rights 0 (l.set.o * l.set.l * l.set.l) (l.set.l * stride) (terms l.set) (λ l.alpha. right_term l.set l.abq l.left l.right l.sp l.i l.alpha) l.alpha l.rights)
+    × ((Summing l.initial.lefts 0 (l.set.o * l.set.l * l.set.l) (l.set.l * stride) (terms l.set) (λ alpha. left_term l.set l.abq l.left l.right l.sp l.i alpha) l.alpha l.lefts
+    × Summing l.initial.rights 0 (l.set.o * l.set.l * l.set.l) (l.set.l * stride) (terms l.set) (λ alpha. right_term l.set l.abq l.left l.right l.sp l.i alpha) l.alpha l.rights)
     × ((l.alpha ≤ l.count) × (l.known ≡ block l.l (sum_m l.alpha (term_from l.set l.abq l.sums l.i)))))
 
 abbrev pub decreases-loop-alpha : goal.decreases-loop-alpha

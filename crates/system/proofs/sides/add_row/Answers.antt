@@ -143,7 +143,8 @@ add_scaled-requires-in-loop-q c =
 
 pub overflow_add-q : goal.overflow_add-q
 overflow_add-q c =
-    omega (arith, c.loop-q-test.true, mul-total c)
+    let positive : 0 < c.args.l = omega (arith, c.requires.l_in_bounds.1.0) in
+    omega (arith, c.loop-q-test.true, c.requires.l_in_bounds.0, le-mul_of_pos_right (c.args.count * c.args.l) positive)
 
 pub loop-q-smaller : goal.loop-q-smaller
 loop-q-smaller c = omega (arith, c.loop-q-test.true)

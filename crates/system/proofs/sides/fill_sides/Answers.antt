@@ -54,7 +54,7 @@ pub add_scaled-requires : goal.add_scaled-requires
 add_scaled-requires c =
     omega (
       arith,
-      simp length-block c (ap length c.product-side.ensures),
+      simp length-block at (ap length c.product-side.ensures),
       c.loop-k-test.true,
       c.loop-k.invariant.so_far.long,
       c.clear.auto.s,
@@ -63,7 +63,7 @@ add_scaled-requires c =
 
 pub overflow_add-k : goal.overflow_add-k
 overflow_add-k c =
-    omega (arith, c.loop-k-test.true, c.fits.count)
+    omega (arith, c.loop-k-test.true, c.requires.l_nonzero.1.1)
 
 pub loop-k-smaller : goal.loop-k-smaller
 loop-k-smaller c = omega (arith, c.loop-k-test.true)
