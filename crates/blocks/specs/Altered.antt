@@ -1,9 +1,8 @@
 -- A block with exactly one of its words altered never has the right check: the wrapping sum changes, or the check word alone does.
 -- Rests on Block.
 use Rattle.std.specs.Prelude.{◌≡◌, ℕ, zero, suc, ◌+◌, ◌*◌, ◌/◌, ◌%◌, ◌^◌, ◌<◌, ◌≤◌, true, false, List, length, ◌≢◌, slice_index, refl}
-use Rattle.std.proofs.Common.{sym, ap, ap₂, ◌∙◌, not-suc-le-zero, arith, ext_get_or, eqb-true, eq-eqb, ne_eqb}
+use Rattle.std.proofs.Common.{sym, ap, ap₂, ◌∙◌, not-suc-le-zero, arith, ext_get_or, eqb-true, ne_eqb}
 use Rattle.std.proofs.Math.Decide.{dec_lt, ℕ_discrete}
-use Rattle.std.proofs.lemmas.Bool.{eqb-false}
 use Rattle.blocks.specs.Block.{word, sum_words, check_of, checked}
 
 -- a list of bytes: what a slice of `u8` always holds

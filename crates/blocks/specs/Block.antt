@@ -1,6 +1,6 @@
 -- A block of an exercise book: 512 bytes, that is 128 words of four bytes, all little-endian (page 02, Req 13): its fields, its check, its form, and the bytes of a part.
 -- Rests on ground's tests.
-use Rattle.std.specs.Prelude.{◌≡◌, ℕ, zero, suc, ◌+◌, ◌-◌, ◌*◌, ◌/◌, ◌%◌, ◌^◌, Bool, true, false, List, [], ◌∷◌, ◌++◌, length, take, drop, replicate, ◌==◌, nat_le, slice_index}
+use Rattle.std.specs.Prelude.{◌≡◌, ℕ, zero, suc, ◌+◌, ◌-◌, ◌*◌, ◌/◌, ◌%◌, ◌^◌, Bool, List, [], ◌∷◌, ◌++◌, length, take, drop, replicate, ◌==◌, nat_le, slice_index}
 use Rattle.ground.specs.Pick.{both}
 use Rattle.ground.specs.Tests.{every}
 use Rattle.blocks.specs.declared.Head.{Head}

@@ -1,16 +1,16 @@
 -- The block of a part: it has the right check and form, and what is read off it is the part; and a block of right check and form is the block of the part read off it.
 -- Rests on Block and Altered.
-use Rattle.std.specs.Prelude.{◌≡◌, ℕ, zero, suc, ◌+◌, ◌-◌, ◌*◌, ◌/◌, ◌%◌, ◌^◌, ◌<◌, ◌≤◌, true, false, List, [], ◌∷◌, ◌++◌, length, take, drop, replicate, ◌==◌, nat_eq, nat_le, slice_index, slice_index_or}
+use Rattle.std.specs.Prelude.{◌≡◌, ℕ, zero, suc, ◌+◌, ◌-◌, ◌*◌, ◌/◌, ◌%◌, ◌^◌, ◌<◌, ◌≤◌, true, List, [], ◌∷◌, ◌++◌, length, take, drop, replicate, ◌==◌, nat_eq, nat_le, slice_index, slice_index_or}
 use Rattle.std.proofs.Math.Path.{refl, sym, ap}
-use Rattle.std.proofs.Common.{ap₂, ◌∙◌, not-suc-le-zero, length-take, length-drop, take-append-drop, drop_of_length-le, ext_get_or, take_at, get_or-append-add, get_or-take, get_or-drop, length-take-le, drop-cons, drop-drop}
+use Rattle.std.proofs.Common.{ap₂, ◌∙◌, length-drop, take-append-drop, drop_of_length-le, ext_get_or, take_at, get_or-append-add, get_or-take, get_or-drop, length-take-le, drop-cons, drop-drop}
 use mathlib.Core.List.{append_assoc}
 use native.Mathlib.Omega.{arith}
 use Rattle.std.proofs.Math.ListN.{length-append, get_or-append}
 use Rattle.std.proofs.lemmas.List.{length-replicate, get_or-replicate}
 use borrow.Author.Tests.{eqb-true, eq-eqb, leb-true, le-leb}
 use Rattle.ground.specs.Pick.{both, both_left, both_right, both_true}
-use Rattle.ground.specs.Tests.{every, every_true, every-at}
-use Rattle.blocks.specs.Block.{pair, word, sum_words, check_of, head_of, size_of, payload_of, Part, part_of, padded, kind_fits, size_fits, formed, checked, two, four, opening, body, block_of}
+use Rattle.ground.specs.Tests.{every_true, every-at}
+use Rattle.blocks.specs.Block.{pair, word, sum_words, check_of, head_of, size_of, payload_of, Part, part_of, padded, kind_fits, size_fits, formed, checked, four, opening, body, block_of}
 use Rattle.blocks.specs.Altered.{Bytes}
 
 -- what a block can hold: kind 1 to 7 and 1 to 500 bytes of payload

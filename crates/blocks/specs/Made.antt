@@ -1,16 +1,16 @@
 -- A block as the code makes it: its opening, its payload with the padding, then its check.
 -- Rests on Codec and on ground's Segment.
-use Rattle.std.specs.Prelude.{◌≡◌, ℕ, zero, suc, ◌+◌, ◌-◌, ◌*◌, ◌/◌, ◌%◌, ◌^◌, ◌<◌, ◌≤◌, List, [], ◌∷◌, ◌++◌, length, replicate, slice_index, slice_index_or}
+use Rattle.std.specs.Prelude.{◌≡◌, ℕ, zero, suc, ◌+◌, ◌-◌, ◌*◌, ◌%◌, ◌^◌, ◌<◌, ◌≤◌, List, [], ◌∷◌, ◌++◌, length, replicate, slice_index, slice_index_or}
 use Rattle.std.proofs.Math.Path.{refl, sym, ap}
-use Rattle.std.proofs.Common.{ap₂, subst, ◌∙◌, zero-add}
+use Rattle.std.proofs.Common.{subst, ◌∙◌, zero-add}
 use Rattle.std.proofs.Math.Decide.{dec_lt}
 use native.Mathlib.Omega.{arith}
-use Rattle.std.proofs.Math.ListN.{length-append, get_or-append, get_or-eq_default}
-use Rattle.std.proofs.lemmas.List.{length-replicate, get_or-replicate}
+use Rattle.std.proofs.Math.ListN.{length-append, get_or-append}
+use Rattle.std.proofs.lemmas.List.{length-replicate}
 use Rattle.std.proofs.Math.Seq.{ext_get_or}
 use Rattle.ground.specs.Segment.{Segment}
 use Rattle.blocks.specs.declared.Head.{Head}
-use Rattle.blocks.specs.Block.{word, sum_words, check_of, Part, two, four, opening, body, block_of}
+use Rattle.blocks.specs.Block.{word, check_of, Part, two, four, opening, body, block_of}
 use Rattle.blocks.specs.Codec.{sum-ext, past}
 
 abbrev pub part_with : Head → List ℕ → Part

@@ -1,8 +1,7 @@
 -- One step of a loop over a block's words and over its padding, and the part of a book that is block b: what the code's proofs cite.
 -- Rests on Block.
-use Rattle.std.specs.Prelude.{◌≡◌, ℕ, zero, suc, ◌+◌, ◌-◌, ◌*◌, ◌/◌, ◌%◌, ◌^◌, ◌<◌, ◌≤◌, Bool, true, false, List, [], ◌∷◌, ◌++◌, length, take, drop, ◌≢◌, slice_index, refl}
-use Rattle.std.proofs.Common.{sym, ap, ap₂, ◌∙◌, add-one, arith, length-drop, length-take-le, eq-eqb, ne_eqb}
-use Rattle.ground.specs.Pick.{pick}
+use Rattle.std.specs.Prelude.{◌≡◌, ℕ, ◌+◌, ◌-◌, ◌*◌, ◌/◌, ◌%◌, ◌^◌, ◌<◌, true, false, List, length, take, drop, ◌≢◌, slice_index, refl}
+use Rattle.std.proofs.Common.{sym, add-one, arith, length-drop, length-take-le, ne_eqb}
 use Rattle.ground.specs.Tests.{every, every-fails}
 use Rattle.blocks.specs.Block.{word, sum_words, size_of, zero_at, padded, block_at, IsBlock}
 

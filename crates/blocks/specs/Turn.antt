@@ -1,7 +1,7 @@
 -- The turn of a block, and its faults in order: 41 check, 42 form, 43 out of turn, the lowest deciding.
 -- Rests on Block and on ground's refusals.
 use Rattle.std.specs.Prelude.{◌≡◌, ℕ, ◌+◌, ◌*◌, ◌<◌, ◌≤◌, Bool, true, false, ◌⊎◌, List, [], ◌∷◌, ◌==◌, nat_lt, refl}
-use Rattle.std.proofs.Common.{sym, ap, ◌∙◌, inl, inr, arith, eqb-true, eq-eqb, ltb-true, lt-ltb}
+use Rattle.std.proofs.Common.{inl, inr, arith, eqb-true, eq-eqb, ltb-true, lt-ltb}
 use Rattle.std.proofs.Math.Logic.{⊎_elim}
 use Rattle.std.proofs.Math.Decide.{ℕ_discrete}
 use Rattle.ground.specs.Pick.{both, both_left, both_right, both_true}

@@ -11,7 +11,7 @@ pub use making::{fill, put};
 pub use turn::fault_of;
 
 // What a block says of itself.
-#[derive(Drop)]
+#[derive(Clone, Copy)]
 pub struct Head {
     pub exercise: u16,
     pub kind: u8,

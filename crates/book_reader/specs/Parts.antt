@@ -1,8 +1,8 @@
 -- A part of the caller's book, total: the payload of a block, or the empty end; and one step of the loops over a field's parts.
 -- Rests on books' Cursor.
-use Rattle.std.specs.Prelude.{◌≡◌, refl, Bool, true, false, List, [], ◌∷◌, ◌++◌, ℕ, zero, suc, ◌+◌, ◌-◌, ◌*◌, ◌/◌, ◌<◌, ◌≤◌, min, leb, take, drop}
+use Rattle.std.specs.Prelude.{◌≡◌, refl, true, false, List, [], ◌∷◌, ◌++◌, ℕ, ◌+◌, ◌-◌, ◌*◌, ◌/◌, ◌<◌, ◌≤◌, min, leb, take, drop}
 use Rattle.std.proofs.Math.Path.{sym, ap}
-use Rattle.std.proofs.Common.{subst, ◌∙◌, append-nil, add-one, length-append, length-take, length-drop, length-take-le, ext_get_or, le-leb}
+use Rattle.std.proofs.Common.{subst, ◌∙◌, length-append, length-take, length-drop, ext_get_or, le-leb}
 use Rattle.std.proofs.Math.Decide.{dec_lt}
 use native.Mathlib.Omega.{arith}
 use Rattle.std.proofs.Math.ListN.{length, get_or}

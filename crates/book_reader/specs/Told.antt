@@ -1,9 +1,8 @@
 -- What the functions of the reader promise that write into a lent buffer: a field's numbers, and its bytes. The reader's refusals come first, then 20.
 -- Rests on books' Cursor.
-use Rattle.std.specs.Prelude.{◌≡◌, Bool, true, false, List, [], ◌∷◌, ℕ, ◌/◌, ◌≤◌, eqb, length, drop, set}
+use Rattle.std.specs.Prelude.{◌≡◌, List, [], ◌∷◌, ℕ, ◌/◌, ◌≤◌, eqb, length, drop, set}
 use Rattle.std.proofs.Math.Path.{refl, sym, ap}
 use Rattle.std.proofs.Common.{◌∙◌, arith, drop_of_length-le, eq-eqb, ne_eqb}
-use Rattle.std.proofs.Math.Decide.{ℕ_discrete}
 use Rattle.ground.specs.Pick.{pick}
 use Rattle.ground.specs.Answers.{answer_of}
 use Rattle.ground.specs.Outcome.{Writes}

@@ -1,14 +1,14 @@
 -- What the writer is lent: a list of exercises, one of kinds, one of sizes, and the bytes of all fields one after the other.
 -- Rests on Fields.
-use Rattle.std.specs.Prelude.{◌≡◌, refl, Bool, true, false, List, [], ◌∷◌, ◌++◌, ℕ, zero, suc, ◌+◌, ◌-◌, ◌*◌, ◌<◌, ◌≤◌, eqb, leb, ltb, length, get_or, take, drop}
-use Rattle.std.proofs.Common.{sym, ap, ◌∙◌, add-zero, zero-add, not-suc-le-zero, add-one, eqb-true, eq-eqb, ne_eqb, leb-true, ltb-true, arith, length-drop, length-take-le}
-use Rattle.ground.specs.Pick.{both, both_left, both_right, both_true}
+use Rattle.std.specs.Prelude.{◌≡◌, refl, Bool, true, false, List, [], ◌∷◌, ℕ, zero, suc, ◌+◌, ◌-◌, ◌*◌, ◌<◌, ◌≤◌, eqb, leb, ltb, length, get_or, take, drop}
+use Rattle.std.proofs.Common.{sym, ap, ◌∙◌, add-zero, zero-add, not-suc-le-zero, add-one, leb-true, ltb-true, arith, length-drop, length-take-le}
+use Rattle.ground.specs.Pick.{both, both_left, both_right}
 use Rattle.ground.specs.Answers.{Rule, unless, first, number_of, answer_of}
 use Rattle.ground.specs.AnswerLaws.{number-of-answer}
 use Rattle.ground.specs.Outcome.{Writes, unique-writes, unique-equation}
 use Rattle.ground.specs.Paste.{Pasted}
 use Rattle.ground.specs.declared.Answer.{Answer}
-use Rattle.books.specs.Fields.{Field, Rising, rising_none, rising-more, last_part, parts_of, book_of}
+use Rattle.books.specs.Fields.{Field, Rising, rising_none, rising-more, last_part, book_of}
 
 -- n fields from field i on, whose bytes begin at byte `at`
 unfoldable pub fields_from : ℕ → ℕ → ℕ → List ℕ → List ℕ → List ℕ → List ℕ → List Field

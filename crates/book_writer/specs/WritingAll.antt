@@ -1,7 +1,7 @@
 -- The writer's loop over the fields, and what its refusals rule out.
 -- Rests on Lists and Going.
-use Rattle.std.specs.Prelude.{◌≡◌, refl, Bool, true, false, ℕ, zero, suc, ◌+◌, ◌-◌, ◌*◌, ◌/◌, ◌<◌, ◌≤◌, min, eqb, leb, length, get_or, take, drop}
-use Rattle.std.proofs.Common.{sym, ap, subst, ◌∙◌, length-append, length-take, length-drop, length-take-le}
+use Rattle.std.specs.Prelude.{◌≡◌, refl, true, false, ℕ, zero, suc, ◌+◌, ◌-◌, ◌*◌, ◌/◌, ◌<◌, ◌≤◌, min, eqb, leb, length, get_or, take, drop}
+use Rattle.std.proofs.Common.{ap, subst, ◌∙◌, length-append, length-drop, length-take-le}
 use mathlib.Core.List.{List, [], ◌∷◌, ◌++◌}
 use native.Mathlib.Omega.{arith}
 use borrow.Author.Tests.{eqb-true, leb-true, lt-leb, le-leb}
@@ -10,7 +10,6 @@ use Rattle.ground.specs.Answers.{unless, first}
 use Rattle.ground.specs.AnswerLaws.{answer-done}
 use Rattle.ground.specs.declared.Answer.TheVariants.{Done}
 use Rattle.ground.specs.First.{first_passes}
-use Rattle.blocks.specs.Block.{Part}
 use Rattle.books.specs.Book.{written, read_number, book_parts}
 use Rattle.books.specs.Fields.{cut, last_part, parts_of, book_of, fields_of, round_trip, Full, written-full}
 use Rattle.books.specs.Cursor.{walk, walk-written}

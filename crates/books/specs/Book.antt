@@ -1,12 +1,12 @@
 -- A book: blocks one after the other. What the reader answers, the parts that it holds, and what is written of a list of parts.
 -- Rests on Codec and Turn.
-use Rattle.std.specs.Prelude.{◌≡◌, refl, Bool, true, false, List, [], ◌∷◌, ◌++◌, ℕ, zero, suc, ◌+◌, ◌*◌, ◌/◌, ◌%◌, ◌<◌, ◌≤◌, eqb, leb, length, get_or, take, drop}
+use Rattle.std.specs.Prelude.{◌≡◌, refl, Bool, true, false, List, [], ◌∷◌, ◌++◌, ℕ, zero, suc, ◌+◌, ◌*◌, ◌/◌, ◌%◌, ◌<◌, ◌≤◌, eqb, leb, length, take, drop}
 use Rattle.std.proofs.Common.{sym, ap, ap₂, ◌∙◌, not-suc-le-zero, arith, length-append, length-drop, length-take, take-append-drop, drop_of_length-le, take_at, drop_at, drop-drop, get_or-take, get_or-drop, length-take-le, eq-eqb, ne_eqb, eqb-true, le-leb, leb-true}
 use Rattle.std.proofs.Math.Decide.{dec_lt, ℕ_discrete}
 use Rattle.std.proofs.Math.ListN.{get_or-eq_default}
 use Rattle.ground.specs.Pick.{pick, both, both_true, both_left, both_right}
 use Rattle.blocks.specs.declared.Head.{Head}
-use Rattle.blocks.specs.Block.{head_of, Part, part_of, block_at, block_of, checked, formed}
+use Rattle.blocks.specs.Block.{head_of, Part, part_of, block_at, block_of}
 use Rattle.blocks.specs.Altered.{Bytes}
 use Rattle.blocks.specs.Codec.{Fits, length-block, block-checked, block-formed, block-head, block-payload, Formed, formed-says, part-fits, block-of-part}
 use Rattle.blocks.specs.Turn.{InTurn, in_turn, start, fault_of, no-fault, fault-none, in-turn-says, says-in-turn}

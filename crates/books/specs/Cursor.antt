@@ -1,15 +1,13 @@
 -- The reader's cursor: the field that begins at a block, its bytes, and the block after it. Walking it gives exactly the fields of the book, bytes included.
 -- Rests on Fields.
-use Rattle.std.specs.Prelude.{◌≡◌, refl, Bool, true, false, List, [], ◌∷◌, ◌++◌, ℕ, zero, suc, ◌+◌, ◌-◌, ◌*◌, ◌/◌, ◌<◌, ◌≤◌, leb, length, take, drop}
-use Rattle.std.proofs.Common.{sym, ap, ap₂, ◌∙◌, append-nil, add-one, one-add, not-suc-le-zero, zero-add, arith, drop_of_length-le, drop-drop}
-use Rattle.std.proofs.Math.Decide.{dec_lt}
+use Rattle.std.specs.Prelude.{◌≡◌, refl, Bool, true, false, List, [], ◌∷◌, ◌++◌, ℕ, zero, suc, ◌+◌, ◌/◌, ◌≤◌, leb, length, drop}
+use Rattle.std.proofs.Common.{sym, ap, ◌∙◌, append-nil, one-add, arith, drop_of_length-le, drop-drop}
 use Rattle.ground.specs.Pick.{pick}
-use Rattle.blocks.specs.declared.Head.{Head}
-use Rattle.blocks.specs.Block.{head_of, payload_of, block_at, Part, part_of}
+use Rattle.blocks.specs.Block.{Part}
 use Rattle.books.specs.declared.Next.{Next}
 use Rattle.books.specs.declared.Next.TheVariants as Nexts
-use Rattle.books.specs.Book.{parts, book_parts, length-parts, read_number}
-use Rattle.books.specs.Fields.{Field, Rising, continues, field_of, joined, gather, fields_of, book_of, parts_of, round_trip}
+use Rattle.books.specs.Book.{book_parts, length-parts}
+use Rattle.books.specs.Fields.{Field, Rising, gather, fields_of, book_of, parts_of, round_trip}
 
 -- how many of the parts go on with a field, and their bytes
 unfoldable pub run : List Part → ℕ

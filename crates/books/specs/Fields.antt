@@ -1,7 +1,7 @@
 -- Fields: what a book is about. A field is cut into parts, each full but the last; the parts of a book gathered are its fields.
 -- Rests on Book.
 use Rattle.std.specs.Prelude.{◌≡◌, refl, Bool, true, false, List, [], ◌∷◌, ◌++◌, ℕ, zero, suc, ◌+◌, ◌-◌, ◌*◌, ◌/◌, ◌<◌, ◌≤◌, leb, length, take, drop}
-use Rattle.std.proofs.Common.{sym, ap, ap₂, ◌∙◌, arith, length-append, length-drop, length-take, take-append-drop, take_all, length-take-le, le-leb}
+use Rattle.std.proofs.Common.{sym, ap, ◌∙◌, arith, length-drop, length-take, take-append-drop, take_all, length-take-le, le-leb}
 use Rattle.ground.specs.Pick.{pick}
 use Rattle.blocks.specs.declared.Head.{Head}
 use Rattle.blocks.specs.Block.{Part}

@@ -1,7 +1,7 @@
 -- Blocks written one after the other into a lent output: what is still to be written, so that the whole is.
 -- Rests on Paste, Made and Book.
 use Rattle.std.specs.Prelude.{◌≡◌, refl, List, [], ◌∷◌, ◌++◌, ℕ, zero, suc, ◌+◌, ◌-◌, ◌*◌, ◌<◌, ◌≤◌, min, length, take, drop}
-use Rattle.std.proofs.Common.{sym, ap, ap₂, subst, ◌∙◌, append_assoc, append-nil, add-zero, add-one, arith, length-append, length-take, length-drop, drop-drop, take_all}
+use Rattle.std.proofs.Common.{sym, ap, subst, ◌∙◌, append_assoc, append-nil, add-zero, add-one, arith, length-append, length-take, length-drop, drop-drop, take_all}
 use Rattle.std.proofs.Math.Decide.{dec_lt}
 use borrow.Rule.Slice.PartMut.{put_mid}
 use Rattle.blocks.specs.declared.Head.{Head}

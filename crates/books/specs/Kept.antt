@@ -1,20 +1,19 @@
 -- The new book of a salvage, block by block: its k-th block is the k-th old block that is listed 0, with its check made anew; and where each block of a sound book has
 -- at most one word altered, its payload is the original's. Rests on Salvage.
 use Rattle.std.specs.Prelude.{◌≡◌, refl, Bool, true, false, List, [], ◌∷◌, ◌++◌, eqb, length, get_or, take, drop}
-use Rattle.std.proofs.Common.{sym, ap, ap₂, subst, ◌∙◌, not-suc-le-zero, add-zero, zero-add, add-one, arith, length-drop, drop-drop, drop_at, take_at, length-take-le}
-use Prim.Native.Nat.{ℕ, zero, suc, ◌+◌, ◌-◌, ◌*◌, ◌/◌, ◌<◌, ◌≤◌}
-use Rattle.std.proofs.Math.Decide.{ℕ_discrete}
-use borrow.Author.Tests.{eq-eqb, ne_eqb, eqb-true}
+use Rattle.std.proofs.Common.{sym, ap, ap₂, ◌∙◌, not-suc-le-zero, add-zero, arith, length-drop, drop-drop, drop_at, take_at, length-take-le}
+use Prim.Native.Nat.{ℕ, zero, suc, ◌+◌, ◌*◌, ◌/◌, ◌<◌}
+use borrow.Author.Tests.{eqb-true}
 use Rattle.ground.specs.Pick.{pick}
 use Rattle.blocks.specs.declared.Head.{Head}
 use Rattle.blocks.specs.Block.{head_of, payload_of, Part, part_of, block_at, block_of}
 use Rattle.blocks.specs.Altered.{Bytes}
-use Rattle.blocks.specs.Codec.{Fits, Formed, formed-says, part-fits, block-payload, block-head}
+use Rattle.blocks.specs.Codec.{Fits, formed-says, part-fits, block-payload}
 use Rattle.blocks.specs.Made.{length-small}
-use Rattle.blocks.specs.Turn.{start, fault_of, no-fault}
+use Rattle.blocks.specs.Turn.{start, fault_of}
 use Rattle.books.specs.Book.{whole, parts, book_parts, at_block, length-book-parts, written, read_number, Chain, chain-none, chain_more}
 use Rattle.books.specs.Going.{Small, small-none, small-more}
-use Rattle.books.specs.Salvage.{Judged, judged, kept, listed, blocks_of, spoils, kept_parts, numbers_of, salvaged, kept-in-turn, kept-formed, Worn, kept-original}
+use Rattle.books.specs.Salvage.{judged, kept, listed, spoils, kept_parts, numbers_of, salvaged, kept-in-turn, kept-formed, Worn, kept-original}
 
 -- the parts whose number is 0
 unfoldable pub kept_by : List ℕ → List Part → List Part

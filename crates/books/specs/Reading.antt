@@ -1,8 +1,8 @@
 -- What the reader's number says: 0 exactly for a book that is the writing of a chain of parts in turn; 40 exactly for a size that is not whole blocks, or too many;
 -- any other number exactly where the first block at fault has it as its lowest. A block with one word altered is never sound. Rests on Book and on ground's Applies.
-use Rattle.std.specs.Prelude.{◌≡◌, refl, Bool, true, false, ◌↔◌, List, [], ◌∷◌, ℕ, zero, suc, ◌+◌, ◌-◌, ◌*◌, ◌/◌, ◌<◌, ◌≤◌, eqb, length, take, drop}
-use Rattle.std.proofs.Common.{sym, ap, subst, ◌∙◌, not-suc-le-zero, add-zero, arith, length-drop, drop-drop, eq-eqb, ne_eqb}
-use Rattle.std.proofs.Math.Decide.{dec_lt, ℕ_discrete}
+use Rattle.std.specs.Prelude.{◌≡◌, refl, Bool, true, false, ◌↔◌, List, ℕ, zero, suc, ◌+◌, ◌*◌, ◌/◌, ◌<◌, ◌≤◌, length, take, drop}
+use Rattle.std.proofs.Common.{sym, ap, ◌∙◌, not-suc-le-zero, add-zero, arith, drop-drop, eq-eqb, ne_eqb}
+use Rattle.std.proofs.Math.Decide.{ℕ_discrete}
 use Rattle.ground.specs.Pick.{pick}
 use Rattle.ground.specs.Answers.{first}
 use Rattle.ground.specs.Applies.{Lowest, first-lowest}

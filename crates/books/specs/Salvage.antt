@@ -1,11 +1,11 @@
 -- Salvage of a bad card (page 02, Req 14): which blocks are good, which exercises are spoiled, what is kept, and what is listed of each old block.
 -- Rests on Book.
 use Rattle.std.proofs.Math.Path.{◌≡◌, refl}
-use Rattle.std.proofs.Common.{sym, ap, ap₂, subst, ◌∙◌, not-suc-le-zero, add-zero, length-take, length-drop, drop-drop, length-take-le, eq-eqb, ne_eqb}
+use Rattle.std.proofs.Common.{sym, ap, subst, ◌∙◌, not-suc-le-zero, add-zero, length-drop, drop-drop, length-take-le, eq-eqb, ne_eqb}
 use Rattle.std.specs.Prelude.{Bool, eqb, leb, get_or, take, drop}
 use Rattle.std.proofs.Math.Bool.{true, false}
-use mathlib.Core.List.{List, [], ◌∷◌, ◌++◌}
-use Prim.Native.Nat.{ℕ, zero, suc, ◌+◌, ◌-◌, ◌*◌, ◌/◌, ◌<◌, ◌≤◌}
+use mathlib.Core.List.{List, [], ◌∷◌}
+use Prim.Native.Nat.{ℕ, zero, suc, ◌+◌, ◌*◌, ◌/◌, ◌<◌, ◌≤◌}
 use Rattle.std.proofs.Math.Decide.{ℕ_discrete}
 use native.Mathlib.Omega.{arith}
 use Rattle.std.proofs.Math.ListN.{length}
@@ -13,8 +13,8 @@ use Rattle.ground.specs.Pick.{pick, both}
 use Rattle.blocks.specs.declared.Head.{Head}
 use Rattle.blocks.specs.Block.{head_of, Part, part_of, block_at, checked, formed}
 use Rattle.blocks.specs.Altered.{Bytes, SameBut, unaltered}
-use Rattle.blocks.specs.Codec.{Fits, Formed, formed-says, part-fits}
-use Rattle.blocks.specs.Turn.{either, InTurn, next, begins, rank, in_turn, start, fault_of, no-fault, in-turn-says}
+use Rattle.blocks.specs.Codec.{Fits, formed-says, part-fits}
+use Rattle.blocks.specs.Turn.{either, InTurn, next, begins, rank, start, fault_of, no-fault, in-turn-says}
 use Rattle.books.specs.Book.{whole, read_number, written, Chain, chain-none, chain_more, bytes_take, bytes_drop, read_none, written-accepted, whole_says}
 use Rattle.books.specs.Reading.{taken-checked}
 

@@ -2,7 +2,6 @@
 -- and it is its own. Rests on Salvage.
 use Rattle.std.specs.Prelude.{◌≡◌, refl, Bool, true, false, ◌↔◌, ◌⊎◌, List, [], ◌∷◌, ◌++◌, ℕ, eqb}
 use Rattle.std.proofs.Common.{sym, ap, subst, ◌∙◌, inl, inr, ⊎_elim, arith, eqb-true, eq-eqb, ne_eqb}
-use Rattle.std.proofs.Math.Decide.{ℕ_discrete}
 use Rattle.std.proofs.lemmas.Bool.{eqb-false}
 use Rattle.ground.specs.Pick.{pick, both, both_left, both_right, both_true}
 use Rattle.blocks.specs.declared.Head.{Head}

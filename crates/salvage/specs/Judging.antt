@@ -1,7 +1,7 @@
 -- The first pass of salvage as the code goes: the faults of the blocks, one after the other into the list.
 -- Rests on books' Salvage and on ground's Paste.
-use Rattle.std.specs.Prelude.{◌≡◌, refl, Bool, true, false, List, [], ◌∷◌, ◌++◌, ℕ, zero, suc, ◌+◌, ◌-◌, ◌*◌, ◌/◌, ◌<◌, ◌≤◌, eqb, length, get_or, take, drop, set}
-use Rattle.std.proofs.Common.{sym, ap, subst, ◌∙◌, not-suc-le-zero, arith, drop-drop}
+use Rattle.std.specs.Prelude.{◌≡◌, refl, Bool, true, false, List, [], ◌∷◌, ℕ, zero, suc, ◌+◌, ◌-◌, ◌*◌, ◌/◌, ◌<◌, ◌≤◌, eqb, length, get_or, drop, set}
+use Rattle.std.proofs.Common.{sym, ap, ◌∙◌, not-suc-le-zero, arith, drop-drop}
 use Rattle.ground.specs.Pick.{pick}
 use Rattle.ground.specs.Answers.{first}
 use Rattle.ground.specs.Paste.{Pasted, length-pasted, pasted-none, pasted-then, pasted-all, pasted-one}

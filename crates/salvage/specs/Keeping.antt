@@ -1,7 +1,7 @@
 -- The fourth pass: the blocks that are listed 0, one after the other into the output.
 -- Rests on books' Going and Kept.
-use Rattle.std.specs.Prelude.{◌≡◌, refl, Bool, true, false, List, [], ◌∷◌, ◌++◌, ℕ, zero, suc, ◌+◌, ◌-◌, ◌*◌, ◌/◌, ◌<◌, ◌≤◌, eqb, length, get_or, take, drop}
-use Rattle.std.proofs.Common.{sym, ap, ap₂, subst, ◌∙◌, append-nil, zero-add, add-zero, add-one, arith, length-append, drop-cons, eq-eqb, ne_eqb}
+use Rattle.std.specs.Prelude.{◌≡◌, refl, Bool, true, false, List, [], ◌∷◌, ◌++◌, ℕ, zero, suc, ◌+◌, ◌-◌, ◌*◌, ◌/◌, ◌<◌, ◌≤◌, eqb, length, get_or, drop}
+use Rattle.std.proofs.Common.{sym, ap, ap₂, subst, ◌∙◌, append-nil, add-one, arith, length-append, drop-cons, eq-eqb, ne_eqb}
 use Rattle.std.proofs.Math.Decide.{ℕ_discrete}
 use borrow.Rule.Slice.PartMut.{put_mid}
 use Rattle.ground.specs.Pick.{pick}
@@ -10,7 +10,7 @@ use Rattle.ground.specs.Paste.{Pasted, pasted-none, pasted-mid}
 use Rattle.blocks.specs.declared.Head.{Head}
 use Rattle.blocks.specs.Block.{head_of, payload_of, Part, part_of, block_at, IsBlock, block_of}
 use Rattle.blocks.specs.Made.{part_with, length-small}
-use Rattle.books.specs.Book.{whole, whole_says, book_parts, at_block, at-end, length-book-parts, written}
+use Rattle.books.specs.Book.{whole, whole_says, book_parts, at_block, at-end, written}
 use Rattle.books.specs.Going.{Small, small-none, small-more, Going, going-none, going_more, going_end}
 use Rattle.books.specs.Salvage.{numbers_of, kept_parts, salvaged}
 use Rattle.books.specs.Kept.{kept_by, kept_by_lem, length-numbers, kept-fits}

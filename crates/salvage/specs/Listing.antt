@@ -1,16 +1,16 @@
 -- The third pass: the list of faults becomes the list of what became of each block.
 -- Rests on Marking and on ground's Segment.
-use Rattle.std.specs.Prelude.{◌≡◌, refl, Bool, true, false, List, [], ◌∷◌, ℕ, zero, suc, ◌+◌, ◌-◌, ◌*◌, ◌/◌, ◌<◌, ◌≤◌, eqb, length, get_or, take, drop, set}
+use Rattle.std.specs.Prelude.{◌≡◌, refl, Bool, List, ℕ, zero, suc, ◌+◌, ◌*◌, ◌/◌, ◌<◌, ◌≤◌, eqb, length, get_or, drop, set}
 use Rattle.std.proofs.Common.{sym, ap, ◌∙◌, not-suc-le-zero, zero-add, arith, drop-drop, ext_get_or}
 use Rattle.ground.specs.Pick.{pick}
 use Rattle.ground.specs.Segment.{Segment, segment-none, fill-next}
 use Rattle.blocks.specs.declared.Head.{Head}
 use Rattle.blocks.specs.Block.{head_of, block_at, IsBlock}
-use Rattle.blocks.specs.Turn.{start, fault_of}
+use Rattle.blocks.specs.Turn.{start}
 use Rattle.books.specs.Salvage.{judged, listed, blocks_of, spoils, numbers_of}
 use Rattle.books.specs.Kept.{length-numbers}
 use Rattle.salvage.specs.Judging.{faults, faults_of, length-faults-of, Judged}
-use Rattle.salvage.specs.Marking.{seen, Spoilt}
+use Rattle.salvage.specs.Marking.{Spoilt}
 
 listed_at : (out : ℕ → Bool) (n place : ℕ) (before : Head) (s : List ℕ) (b : ℕ) → b < n
     → get_or (listed out (judged n place before s)) b 0

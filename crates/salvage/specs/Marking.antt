@@ -1,7 +1,7 @@
 -- The second pass: the marks of spoiled exercises. A good block right after a bad one is the nearest good block after it, so one flag, whether the block before is bad,
 -- is all that the loop carries. Rests on Judging.
-use Rattle.std.specs.Prelude.{◌≡◌, refl, Bool, true, false, not, List, [], ◌∷◌, ◌++◌, ℕ, zero, suc, ◌+◌, ◌-◌, ◌*◌, ◌/◌, ◌<◌, ◌≤◌, eqb, leb, length, get_or, drop, set, replicate}
-use Rattle.std.proofs.Common.{sym, ap, subst, ◌∙◌, arith, length-set, drop_of_length-le, get_or-set_same, get_or-set_other, eq-eqb, ne_eqb}
+use Rattle.std.specs.Prelude.{◌≡◌, refl, Bool, true, false, not, List, [], ◌∷◌, ℕ, zero, suc, ◌+◌, ◌/◌, ◌<◌, ◌≤◌, eqb, leb, length, get_or, drop, set, replicate}
+use Rattle.std.proofs.Common.{sym, ap, ◌∙◌, arith, length-set, drop_of_length-le, get_or-set_same, get_or-set_other, eq-eqb, ne_eqb}
 use Rattle.std.proofs.Math.Decide.{ℕ_discrete}
 use Rattle.ground.specs.Pick.{pick, both}
 use Rattle.blocks.specs.declared.Head.{Head}
@@ -9,7 +9,7 @@ use Rattle.blocks.specs.Block.{head_of, block_at, IsBlock}
 use Rattle.blocks.specs.Turn.{either, start}
 use Rattle.books.specs.Book.{whole}
 use Rattle.books.specs.Salvage.{Judged, blocks_of, is_of, first_good, spoiled, spoils, length-judged}
-use Rattle.salvage.specs.Judging.{faults_of, length-faults-of, block-judged}
+use Rattle.salvage.specs.Judging.{faults_of, block-judged}
 
 -- exercise e has its mark
 abbrev pub seen : List ℕ → ℕ → Bool

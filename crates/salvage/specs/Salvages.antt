@@ -1,6 +1,6 @@
 -- What salvage promises of its answer and of the lent output and list, before and after; and that no second outcome meets the promise.
 -- Rests on books' Salvage.
-use Rattle.std.specs.Prelude.{◌≡◌, refl, Bool, true, false, List, [], ◌∷◌, ◌++◌, ℕ, ◌/◌, eqb, length}
+use Rattle.std.specs.Prelude.{◌≡◌, refl, true, List, [], ◌∷◌, ℕ, ◌/◌, eqb, length}
 use Rattle.std.proofs.Common.{sym, ap, ◌∙◌, arith, eqb-true}
 use Rattle.std.proofs.Math.Decide.{ℕ_discrete}
 use Rattle.ground.specs.Answers.{Rule, unless, first}

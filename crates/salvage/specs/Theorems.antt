@@ -1,20 +1,18 @@
 -- What holds of a salvage that answered a count, by its contract alone: the reader takes what was written; its k-th block is the k-th old block that is listed 0; and where
 -- each block of a sound book has at most one word altered, its payload is the original's. Rests on Salvages and on books' Kept.
-use Rattle.std.specs.Prelude.{◌≡◌, refl, List, [], ◌∷◌, ◌++◌, ℕ, suc, ◌+◌, ◌-◌, ◌*◌, ◌/◌, ◌<◌, ◌≤◌, length, get_or, take, drop}
-use Rattle.std.proofs.Common.{sym, subst, ◌∙◌, zero-add, arith, length-drop, length-take, take_at}
+use Rattle.std.specs.Prelude.{◌≡◌, List, ◌++◌, ℕ, ◌+◌, ◌*◌, ◌/◌, ◌<◌, length, get_or, take, drop}
+use Rattle.std.proofs.Common.{sym, ◌∙◌, arith, length-drop, take_at}
 use Rattle.std.proofs.Math.Path.{ap}
 use Rattle.std.proofs.Math.Decide.{ℕ_discrete}
 use Rattle.std.proofs.lemmas.List.{drop-append-le, take-append-le}
 use Rattle.ground.specs.Answers.{first}
-use Rattle.ground.specs.Outcome.{unique-equation}
-use Rattle.ground.specs.Paste.{Pasted}
 use Rattle.blocks.specs.Block.{payload_of, part_of, block_at, block_of}
 use Rattle.blocks.specs.Altered.{Bytes}
-use Rattle.books.specs.Book.{read_number, written, length-written}
+use Rattle.books.specs.Book.{read_number}
 use Rattle.books.specs.Going.{length-written-small}
-use Rattle.books.specs.Salvage.{kept_parts, numbers_of, salvaged, kept-in-turn, salvaged-read, Worn}
+use Rattle.books.specs.Salvage.{kept_parts, salvaged, salvaged-read, Worn}
 use Rattle.books.specs.Kept.{zeros, kept_small, Kth, kth-kept, kept_payload}
-use Rattle.salvage.specs.declared.Salvaged.TheVariants.{Kept, Refused}
+use Rattle.salvage.specs.declared.Salvaged.TheVariants.{Kept}
 use Rattle.salvage.specs.Salvages.{salvage_rules, Salvages, salvage-fits}
 
 module _ {s out list : List ℕ} {n : ℕ} {out' list' : List ℕ} (w : Salvages s out list (Kept n) out' list') where

@@ -1,0 +1,27 @@
+-- `book_reader::first_fault` meets its contract: the blocks before b are passed, and `before` is the head of the last of them. Rests on Passed.
+use Prim.Native.Nat.{◌/◌, ◌≤◌}
+use lib.ListN.{length}
+use Rattle.books.specs.Book.{whole_says}
+use Rattle.book_reader.specs.Passed.{passed_none, passed-next, passed-stop, passed-end}
+use borrow.Author.Rules.{rules}
+use native.Mathlib.Omega.{arith}
+use Rattle.book_reader.proofs.reader.first_fault.Goals as goal
+
+pub loop-b-init : goal.loop-b-init
+loop-b-init c = passed_none _ _
+
+pub overflow_cast-b : goal.overflow_cast-b
+overflow_cast-b c =
+    let few : length c.args.book.now / 512 ≤ 65536 = (whole_says c.args.book.now c.requires).1 in
+    omega (arith, few)
+
+pub returns-then-fault-ne0 : goal.returns-then-fault-ne0
+returns-then-fault-ne0 c =
+    passed-stop c.loop-b.invariant (search rules) c.block_at-block.ensures c.fault_of-fault.ensures c.if-fault-ne0.true
+
+pub loop-b-preserved : goal.loop-b-preserved
+loop-b-preserved c =
+    passed-next c.loop-b.invariant (search rules) c.block_at-block.ensures c.fault_of-fault.ensures c.if-fault-ne0.false c.head_of-before.ensures
+
+pub returns : goal.returns
+returns c = passed-end c.loop-b.invariant (search rules)
