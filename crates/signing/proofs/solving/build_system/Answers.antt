@@ -107,4 +107,4 @@ returns c =
     c.load_vinegar.new.x c.private_table.new.t c.fill_left.new.left c.fill_right.new.right
     c.fill_right.new.sums c.powers_of_s.new.sp
     c.load_vinegar.ensures c.private_table.ensures.holds c.powers_of_s.ensures.holds
-    c.fill_left.ensures c.fill_right.ensures.0 c.fill_right.ensures.1 c.build.ensures)
+    c.fill_left.ensures c.fill_right.ensures.right_holds c.fill_right.ensures.sums_hold c.build.ensures)
