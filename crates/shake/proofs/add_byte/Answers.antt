@@ -5,17 +5,11 @@ use lib.Pow.{shl_exact}
 use Rattle.shake.specs.Sponge.{add_byte}
 use native.Mathlib.Omega.{arith}
 use borrow.Author.Rules.{rules}
-use Rattle.shake.proofs.add_byte.Statement.{statement}
-use Rattle.shake.proofs.add_byte.Tie as tie
+use Rattle.shake.proofs.add_byte.Goals as goal
 
-returns : tie.Need-returns
+pub returns : goal.returns
 unfolding add_byte
 returns c =
-    let a = c.before.args in
+    let a = c.args in
     let shifted : a.b * 2 ^ (8 * (a.p % 8)) % 2 ^ 64 ≡ a.b * 2 ^ (8 * (a.p % 8)) = shl_exact {a = a.b} 8 (8 * (a.p % 8)) 64 (search rules) (omega arith) in
     rw shifted
-
-pub add-byte-spec : {M : Type 1} → statement M
-add-byte-spec =
-    tie.close
-    (tie.spec (λ c. search rules) (λ c. search rules) (λ c. search rules) (λ c. search rules) (λ c. search rules) returns)
