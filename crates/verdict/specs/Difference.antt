@@ -16,7 +16,8 @@ use Rattle.matrix.specs.Same.{Same, same_refl}
 use Rattle.scheme.specs.Streams.{block_of, target_of, signature_of, P22}
 use Rattle.scheme.specs.Maps.{public_map}
 use Rattle.scheme.specs.Entries.{by-entry, public_map_with-same}
-use Rattle.scheme.specs.Verdict.{accepted, accepted-exactly}
+use Rattle.scheme.specs.Verdict.{accepted}
+use Rattle.scheme.proofs.Verdict.{accepted-exactly}
 use Rattle.tables.specs.Unpacked.{Unpacked, list_of, unpacked-list}
 use Rattle.public_map.specs.Values.{Puts, MapValues, puts-same}
 
