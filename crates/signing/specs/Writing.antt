@@ -17,7 +17,7 @@ use Rattle.field.specs.Field.{add, mul}
 use Rattle.field.specs.Laws.{zero-add, one-mul}
 use Rattle.field.specs.FieldRing.{field-ring}
 use Rattle.packing.specs.Packing.{element, packed, packed_bytes, byte_of, Bytes}
-use Rattle.packing.specs.Laws.{byte-elements, get_or-packed, length-packed}
+use Rattle.packing.proofs.Laws.{byte-elements, get_or-packed, length-packed}
 use Rattle.packing.specs.Written.{Written}
 use Rattle.sets.specs.declared.Set.{Set}
 use Rattle.sets.specs.Sets.{variables, unknowns, vinegar_count, signature_count}

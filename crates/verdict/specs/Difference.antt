@@ -14,7 +14,8 @@ use Rattle.sets.specs.Bounds.{Bounds}
 use Rattle.matrix.specs.Same.{same_refl}
 use Rattle.scheme.specs.Streams.{block_of, target_of, signature_of}
 use Rattle.scheme.specs.Entries.{by-entry, public_map_with-same}
-use Rattle.scheme.specs.Verdict.{accepted, accepted-exactly}
+use Rattle.scheme.specs.Verdict.{accepted}
+use Rattle.scheme.proofs.Verdict.{accepted-exactly}
 use Rattle.tables.specs.Unpacked.{Unpacked, list_of, unpacked-list}
 use Rattle.public_map.specs.Values.{MapValues, puts-same}
 

@@ -7,7 +7,7 @@ use Rattle.ground.specs.AnswerLaws.{answer-done}
 use Rattle.ground.specs.declared.Answer.{Answer}
 use Rattle.ground.specs.declared.Answer.TheVariants.{Done}
 use Rattle.packing.specs.Packing.{packed_bytes, packed, unpacked, in_field, pack_rules, unpack_rules, Packs, Unpacks}
-use Rattle.packing.specs.Laws.{length-packed, unpack-pack}
+use Rattle.packing.proofs.Laws.{length-packed, unpack-pack}
 use Rattle.packing.specs.Refusals.{pack-allowed, unpack-fits}
 
 pub pack-then-unpack : (elements : List ℕ) {bytes stream room out : List ℕ} {r r' : Answer} → Packs elements bytes r stream → r ≡ Done

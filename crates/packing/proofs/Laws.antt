@@ -89,6 +89,9 @@ in-field-next es k l h = in-field-step es k l ∙ ap (λ t. both t (in_field (dr
 pub in-field-stop : (es : List ℕ) (k : ℕ) → k < length es → 15 < get_or es k 0 → in_field (drop k es) ≡ false
 in-field-stop es k l h = in-field-step es k l ∙ ap (λ t. both t (in_field (drop (k + 1) es))) (lt-leb _ _ h)
 
+-- the same, for the check to cite where a test of elements ends early
+pub ruleset in_field_stop = (in-field-stop)
+
 unpacked-in-field : (k : ℕ) (s : List ℕ) → in_field (unpacked k s) ≡ true
 unfolding unpacked
 unpacked-in-field k s = in-field-tab k (element s) (λ e l. element-lt s e)
