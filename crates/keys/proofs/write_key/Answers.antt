@@ -32,6 +32,6 @@ returns c =
     let clear-spare = c.clear_spare in
     let write-elements = c.write_elements in
     let a = c.args in
-    let bytes : Bytes clear-spare.new.key = record { below = λ k. omega (arith, c.slice_known-3-1.given k) } in
+    let bytes : Bytes clear-spare.new.key = record { below = λ k. omega (arith, c.type_inv.key k) } in
     let long = clear-spare.auto.key ∙ write-elements.auto.key ∙ c.requires.public_len.2 in
     key-whole a.set a.public.now a.private.now write-elements.ensures c.private_table.ensures.holds clear-spare.ensures bytes long
