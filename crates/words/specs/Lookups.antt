@@ -1,6 +1,6 @@
 -- Sums of look-ups in a table of multiples, and what they are: sums of rows, each times its scalar.
 -- Rests on Multiples and algebra's sums.
-use Rattle.std.specs.Prelude.{◌≡◌, refl, List, ℕ, ◌+◌, ◌*◌, ◌/◌, ◌%◌, ◌<◌, ◌≤◌, get_or}
+use Rattle.std.specs.Prelude.{◌≡◌, List, ℕ, ◌+◌, ◌*◌, ◌/◌, ◌%◌, ◌<◌, ◌≤◌, get_or}
 use Rattle.std.proofs.Common.{sym, ap, ap₂, ◌∙◌, mul-le-mul_right, arith}
 use Rattle.std.proofs.Math.Arith.{digits_lt}
 use Rattle.algebra.specs.Sum.{sum, sum-none, sum_more, sum-cong}

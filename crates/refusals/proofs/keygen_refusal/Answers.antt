@@ -1,7 +1,6 @@
 -- `refusals::keygen_refusal` meets its contract: each call of the chain is one rule of the list, and the lengths are the exact ones, since the set is allowed.
 -- A callee with no `requires` asks nothing: `(λ _ _. tt)`.
 use mathlib.Core.Path.{sym, ◌∙◌}
-use borrow.Author.Tests.{not-true, not-false}
 use Rattle.ground.specs.Answers.{first}
 use Rattle.sets.specs.Sets.{public_bytes, private_bytes, key_bytes}
 use Rattle.refusals.specs.Rules.{keygen_rules}

@@ -1,7 +1,6 @@
 -- `refusals::salt_refusal` meets its contract: each call of the chain is one rule of the list, and the lengths are the exact ones, since the set is allowed.
 -- A callee with no `requires` asks nothing: `(λ _ _. tt)`.
 use mathlib.Core.Path.{sym, ◌∙◌}
-use borrow.Author.Tests.{not-true, not-false}
 use Rattle.ground.specs.Answers.{first}
 use Rattle.refusals.specs.Rules.{salt_rules}
 use Rattle.refusals.proofs.salt_refusal.Goals as goal

@@ -2,7 +2,6 @@
 use native.Mathlib.Omega.{arith}
 use borrow.Author.Rules.{rules}
 use Rattle.field.specs.Field.{add}
-use Rattle.packing.specs.Packing.{element}
 use Rattle.rows.specs.Plus.{plus_none, plus-next, plus-end}
 use Rattle.rows.proofs.add_elements.Goals as goal
 

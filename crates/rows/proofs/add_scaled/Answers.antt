@@ -12,13 +12,12 @@ loop-i-init c = (search rules, plus_none)
 
 pub loop-i-preserved : goal.loop-i-preserved
 unfolding add
-loop-i-preserved c =
-    (
-      search rules,
-      plus-next c.loop-i.invariant.1 (omega arith) c.chosen.result
-          (c.chosen.ensures
-          ∙ mul-chosen c.args.s _ _ _ _ _ refl c.twice-s2.ensures c.twice-s4.ensures c.twice-s8.ensures),
-    )
+loop-i-preserved c = (
+  search rules,
+  plus-next c.loop-i.invariant.1 (omega arith) c.chosen.result
+      (c.chosen.ensures
+      ∙ mul-chosen c.args.s _ _ _ _ _ refl c.twice-s2.ensures c.twice-s4.ensures c.twice-s8.ensures),
+)
 
 pub returns : goal.returns
 returns c = plus-end c.loop-i.invariant.1 c.loop-i.invariant.0 c.loop-i-test.false

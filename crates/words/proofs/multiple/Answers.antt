@@ -13,14 +13,12 @@ loop-c-init c = (search rules, sym (multiple-none _ _ _ _))
 pub overflow_mul-w : goal.overflow_mul-w
 overflow_mul-w c =
     let room : c.loop-c.w < 16 ^ 15 =
-
     rw c.loop-c.invariant.1 (multiple-room _ _ _ _ _ c.loop-c-test.true c.requires.1) in
     omega (arith, room)
 
 pub overflow_add-w : goal.overflow_add-w
 overflow_add-w c =
     let room : c.loop-c.w < 16 ^ 15 =
-
     rw c.loop-c.invariant.1 (multiple-room _ _ _ _ _ c.loop-c-test.true c.requires.1) in
     let small : c.mul-e.result < 16 = rw c.mul-e.ensures (mul-lt _ _) in
     omega (arith, room, small)

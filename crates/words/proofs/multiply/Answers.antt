@@ -14,7 +14,6 @@ loop-k-init c = (search rules, multiplying-none)
 pub overflow_mul-k : goal.overflow_mul-k
 overflow_mul-k c =
     let row_inside : c.loop-k.k / 8 * c.args.n + c.args.n ≤ length c.args.src.now =
-
     let row : c.loop-k.k / 8 < c.args.count = omega arith in
     omega (arith, row_fits c.args.n row) in
     omega (arith, row_inside)
@@ -22,7 +21,6 @@ overflow_mul-k c =
 pub multiple-requires : goal.multiple-requires
 multiple-requires c =
     let row_inside : c.loop-k.k / 8 * c.args.n + c.args.n ≤ length c.args.src.now =
-
     let row : c.loop-k.k / 8 < c.args.count = omega arith in
     omega (arith, row_fits c.args.n row) in
     (row_inside, c.requires.1.1)

@@ -34,7 +34,6 @@ overflow_add-place c =
 pub overflow_mul-l : goal.overflow_mul-l
 overflow_mul-l c =
     let square : (let a = c.args in a.l * a.l ≤ length a.scalars.now) =
-
     omega (arith, c.requires.1.0, mul-le-mul_right (c.args.l * c.args.l) c.requires.1.1) in
     omega (arith, square)
 

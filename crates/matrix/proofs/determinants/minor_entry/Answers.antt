@@ -3,7 +3,7 @@ use mathlib.Core.Path.{◌≡◌, sym, ap, ◌∙◌}
 use mathlib.Core.Bool.{true, false}
 use Prim.Native.Nat.{◌-◌, ◌/◌, ◌%◌, ◌+◌}
 use native.Mathlib.Omega.{arith}
-use Rattle.matrix.specs.Determinant.{skip, skip-lt, minor}
+use Rattle.matrix.specs.Determinant.{skip-lt, minor}
 use Rattle.matrix.specs.Block.{view, cell, inside, inside-row, inside-column, stride}
 use Rattle.matrix.proofs.determinants.minor_entry.Goals as goal
 
