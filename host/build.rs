@@ -1,5 +1,5 @@
-//! Finds the proved library, has it made where it is missing or older than the Rattle sources, and
-//! links it.
+//! Finds the proved library, has it made by `scripts/make-library` where it is missing or older than
+//! the Rattle sources, and links it.
 
 use std::fs;
 use std::path::{Path, PathBuf};
@@ -10,7 +10,7 @@ fn main() {
     println!("cargo::rerun-if-changed=build.rs");
     let root = repository_root();
     let archive = root.join("target/staticlib/libsnova.a");
-    let sources = [root.join("crates"), root.join("crates.txt")];
+    let sources = sources(&root);
     for path in sources.iter().chain([&archive]) {
         println!("cargo::rerun-if-changed={}", path.display());
     }
@@ -32,6 +32,20 @@ fn repository_root() -> PathBuf {
         Some(root) => root.to_path_buf(),
         None => host,
     }
+}
+
+/// The list of crates, and what stands in each crate's folder. A crate's `out/` is made by `rt` and is
+/// no source; the folder's own time changes where `out/` comes or goes, and tells nothing.
+fn sources(root: &Path) -> Vec<PathBuf> {
+    let below = |path: &Path| match fs::read_dir(path) {
+        Ok(entries) => entries.flatten().map(|entry| entry.path()).collect(),
+        Err(_) => Vec::new(),
+    };
+    let crates: Vec<PathBuf> = below(&root.join("crates"));
+    let parts = crates.iter().flat_map(|folder| below(folder));
+    let mut all = vec![root.join("crates.txt")];
+    all.extend(parts.filter(|part| !part.ends_with("out")));
+    all
 }
 
 /// Whether the archive is missing, or older than one of the sources.
@@ -63,23 +77,19 @@ fn make_library(root: &Path, archive: &Path) -> Result<(), String> {
             root.display()
         ));
     }
-    // What `rt` prints goes to standard error: cargo reads directives from standard output.
-    let status = Command::new("rt")
-        .args(["staticlib", "snova"])
-        .current_dir(root)
-        .stdout(std::io::stderr())
-        .status();
+    // What it prints goes to standard error: cargo reads directives from standard output.
+    let status = Command::new(root.join("scripts/make-library")).stdout(std::io::stderr()).status();
     match status {
         Err(error) => Err(format!(
-            "the proved library {} must be made by `rt staticlib snova`, and `rt` could not be run ({error}): \
-             put the Rattle toolchain's `rt` on PATH",
+            "the proved library {} must be made by `scripts/make-library`, which could not be run ({error})",
             archive.display()
         )),
-        Ok(status) if !status.success() => {
-            Err(format!("`rt staticlib snova` in {} failed: {status}", root.display()))
-        }
+        Ok(status) if !status.success() => Err(format!(
+            "`scripts/make-library` in {} failed ({status}); it needs the Rattle toolchain's `rt` on PATH",
+            root.display()
+        )),
         Ok(_) if !archive.is_file() => {
-            Err(format!("`rt staticlib snova` ended well but wrote no {}", archive.display()))
+            Err(format!("`scripts/make-library` ended well but wrote no {}", archive.display()))
         }
         Ok(_) => Ok(()),
     }

@@ -1,10 +1,10 @@
-/* The proved model of SNOVA (version 2, q = 16): every function of libsnova.a. x86-64, System V calls, C99 or C++.
+/* The proved model of SNOVA (version 2, q = 16): every function of libsnova.a. x86-64-v2 (SSE4.1), System V calls, C99 or C++.
  *
  * A buffer is a pointer and then its length in bytes (of exercises, sizes and numbers: in entries). Any set, any lengths and any bytes are
  * answered; nothing is asked of a buffer but that it is there for its length and that a buffer that is written stands apart from all others.
  * A pointer to a buffer of length 0 is not looked at, and must not be null. On a refusal (10 and above) no buffer is written.
- * No function allocates, blocks, keeps anything or calls anything. "Stack" below is what a call takes of the caller's stack, in bytes, at most
- * (measured by host/tests/stack.rs on this build). */
+ * No function allocates, blocks, keeps anything or calls anything but memcpy and memset. "Stack" below is what a call takes of the caller's
+ * stack, in bytes, at most (measured with a painted stack: docs/PROMISES.md). */
 #ifndef SNOVA_H
 #define SNOVA_H
 

@@ -240,11 +240,11 @@ fn decoding_writes_all_or_nothing() {
     }
 }
 
-/// The proved program, which `rt check read_responses` makes.
+/// The proved program, which `scripts/make-program` makes.
 fn program() -> PathBuf {
     let root = Path::new(env!("CARGO_MANIFEST_DIR")).parent().expect("host/ stands in a folder");
     let path = root.join("target/bin/read_responses");
-    assert!(path.is_file(), "{} is missing: run `rt check read_responses`", path.display());
+    assert!(path.is_file(), "{} is missing: run `scripts/make-program`", path.display());
     path
 }
 

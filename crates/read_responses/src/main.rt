@@ -5,26 +5,34 @@
 ghost use Rattle.std.specs.Prelude.{◌≡◌};
 ghost use Rattle.response_machine.specs.Reads.{fed};
 
-use libc::{STDIN_FILENO, STDOUT_FILENO};
 use response_machine::Reader;
 use responses::Text;
+use std::io;
+use std::io::{Read, Write};
+
+// Where the program writes, and what became of it: after a write that failed nothing more is written.
+#[derive(Drop)]
+struct Output<W: Write + Drop> {
+    to: W,
+    wrote: io::Result<()>,
+}
 
 // The one place where the program writes.
-fn write_from(bytes: &[u8; 80], from: usize) {
+fn write_from<W: Write + Drop>(out: &mut Output<W>, bytes: &[u8; 80], from: usize) {
     let all: &[u8] = bytes;
-    if from < all.len() {
-        io::write_all(STDOUT_FILENO, &all[from..]);
+    if from < all.len() && out.wrote.is_ok() {
+        out.wrote = out.to.write_all(&all[from..]);
     }
 }
 
 // Writes a text that event_text or end_text made.
-fn write_text(text: Text) {
+fn write_text<W: Write + Drop>(out: &mut Output<W>, text: Text) {
     let bytes = text.bytes;
-    write_from(&bytes, text.from);
+    write_from(out, &bytes, text.from);
 }
 
 // Writes what a piece tells, and answers the reader after it.
-fn show(reader: Reader, piece: &[u8]) -> Reader
+fn show<W: Write + Drop>(out: &mut Output<W>, reader: Reader, piece: &[u8]) -> Reader
     ensures { result ≡ fed reader piece.now }
 {
     let mut here = reader;
@@ -34,55 +42,38 @@ fn show(reader: Reader, piece: &[u8]) -> Reader
         let after = part.reader;
         let event = part.event;
         at = part.at;
-        write_text(responses::event_text(event));
+        write_text(out, responses::event_text(event));
         here = after;
     }
     here
 }
 
-#[derive(Drop)]
-struct Progress {
-    reader: Reader,
-    more: bool,
-}
-
-// One read. A read that fails ends the file, as the end does.
-fn turn(reader: Reader) -> Progress {
-    let mut piece = io::large_buffer();
-    let got = libc::read(STDIN_FILENO, &mut piece);
-    let n = io::count(got, &piece);
-    if n == 0 {
-        return Progress {
-            reader,
-            more: false,
-        };
-    }
-    let after = show(reader, &piece[..n]);
-    Progress {
-        reader: after,
-        more: !responses::is_stopped(after),
-    }
-}
-
-// A proved loop has to end, and nothing says that a file does: the turns are counted down from a number that no run uses up.
-fn read_all() -> Reader {
+// Shows the whole input: to its end, to a refusal or to a write that fails. A read that fails is an error.
+// A proved loop has to end, and nothing says that a file does: the reads are counted up to a number that no run comes to.
+fn read_all<R: Read, W: Write + Drop>(input: &mut R, out: &mut Output<W>) -> io::Result<Reader> {
+    let mut piece = [0u8; 65536];
     let mut here = responses::start();
-    let mut turns = u64::MAX;
-    while turns > 0 {
-        let t = turn(here);
-        let after = t.reader;
-        here = after;
-        if !t.more {
-            return here;
+    for _ in 0..u64::MAX {
+        let n = input.read(&mut piece)?;
+        if n == 0 {
+            break;
         }
-        turns -= 1;
+        here = show(out, here, &piece[..n]);
+        if responses::is_stopped(here) || out.wrote.is_err() {
+            break;
+        }
     }
-    here
+    Ok(here)
 }
 
-fn main() {
-    let last = read_all();
+fn main(rt: HostRuntime) -> io::Result<()> {
+    let mut out = Output {
+        to: io::writer(&rt),
+        wrote: Ok(()),
+    };
+    let last = read_all(&mut rt.stdin(), &mut out)?;
     if !responses::is_stopped(last) {
-        write_text(responses::end_text(responses::end(last)));
+        write_text(&mut out, responses::end_text(responses::end(last)));
     }
+    out.wrote
 }

@@ -1,13 +1,11 @@
 -- Laws of decoding a whole hexadecimal value, place by place: what the code that decodes rests on.
 -- Rests on Lent, and on Fill of the crate ground.
-use Rattle.std.specs.Prelude.{◌≡◌, refl, Bool, true, false, List, [], ◌∷◌, ℕ, zero, suc, ◌+◌, ◌*◌, ◌/◌, ◌%◌, ◌<◌, ◌≤◌, eqb, ltb, length, get_or, drop}
-use Rattle.std.proofs.Common.{sym, ap, ap₂, ◌∙◌, not-suc-le-zero, arith, drop-cons, add-one, ltb-true, eq-eqb, ne_eqb, eqb-true, lt-ltb, le-ltb}
-use Rattle.ground.specs.Pick.{pick, both, both_left, both_right}
-use Rattle.ground.specs.Answers.{Rule, unless, first}
+use Rattle.std.specs.Prelude.{◌≡◌, refl, true, false, List, [], ◌∷◌, ℕ, zero, suc, ◌+◌, ◌*◌, ◌/◌, ◌%◌, ◌<◌, ◌≤◌, eqb, ltb, length, get_or, drop}
+use Rattle.std.proofs.Common.{sym, ap, ap₂, ◌∙◌, not-suc-le-zero, arith, drop-cons, add-one, ltb-true, eqb-true, lt-ltb, le-ltb}
+use Rattle.ground.specs.Pick.{both, both_left, both_right}
+use Rattle.ground.specs.Answers.{first}
 use Rattle.ground.specs.First.{first_passes}
-use Rattle.ground.specs.Outcome.{Writes}
 use Rattle.ground.specs.Fill.{tab, tab-ext}
-use Rattle.ground.specs.declared.Answer.{Answer}
 use Rattle.response_format.specs.Fields.{digit_of}
 use Rattle.response_format.specs.Rules.{all_digits, paired}
 use Rattle.response_format.specs.Tells.{decoded}

@@ -1,6 +1,6 @@
 -- What is written into a lent output: a value decoded, and one field of a file collected.
 -- Rests on Rules and Tells, and on Answers and Outcome of the crate ground.
-use Rattle.std.specs.Prelude.{◌≡◌, Bool, true, false, not, List, [], ◌∷◌, ℕ, ◌-◌, ◌/◌, eqb, length}
+use Rattle.std.specs.Prelude.{◌≡◌, Bool, false, not, List, [], ◌∷◌, ℕ, ◌-◌, ◌/◌, eqb, length}
 use Rattle.ground.specs.Pick.{pick, both}
 use Rattle.ground.specs.Answers.{Rule, unless, first}
 use Rattle.ground.specs.Outcome.{Writes}

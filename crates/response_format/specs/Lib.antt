@@ -4,10 +4,7 @@ pub mod Rules
 pub mod Tells
 pub mod Lent
 pub mod Text
-pub mod Labels
 pub mod Cuts
-pub mod Accepts
-pub mod Name
 pub mod Decode
 pub mod Decimal
 pub mod Unique

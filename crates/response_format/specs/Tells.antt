@@ -1,7 +1,7 @@
 -- What a file tells, line by line: bytes, numbers, the ends of fields and entries, the refusal.
 -- A field's decoded bytes come as their digits come, so those of a line that turns out to be at fault come too: they stand only once Ended or Entry follows.
 -- Rests on Rules.
-use Rattle.std.specs.Prelude.{Bool, true, false, not, List, [], ◌∷◌, ◌++◌, map, ℕ, ◌+◌, ◌*◌, eqb, ltb}
+use Rattle.std.specs.Prelude.{List, [], ◌∷◌, ◌++◌, map, ℕ, ◌+◌, ◌*◌, eqb, ltb}
 use Rattle.ground.specs.Pick.{pick, both}
 use Rattle.response_format.specs.Fields.{digit_of, numeral, label, is_number}
 use Rattle.response_format.specs.Rules.{begins, value_in, fault, after}

@@ -1,7 +1,7 @@
 -- What the program prints: count, mlen and smlen of each entry in decimal, a line each; at a refusal "refused" and the number, and nothing more.
 -- Rests on Rules and Tells.
-use Rattle.std.specs.Prelude.{Bool, true, false, List, [], ◌∷◌, ◌++◌, ℕ, zero, suc, ◌+◌, ◌/◌, ◌%◌, eqb}
-use Rattle.ground.specs.Pick.{pick, both}
+use Rattle.std.specs.Prelude.{List, [], ◌∷◌, ◌++◌, ℕ, zero, suc, ◌+◌, ◌/◌, ◌%◌, eqb}
+use Rattle.ground.specs.Pick.{pick}
 use Rattle.response_format.specs.Rules.{fault, after, refusal, cut}
 use Rattle.response_format.specs.Tells.{closing, noted, no_numbers}
 use Rattle.response_format.specs.declared.Numbers.{Numbers}

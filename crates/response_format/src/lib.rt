@@ -4,7 +4,7 @@
 #![tactic(auto)]
 
 // The numbers of an entry.
-#[derive(Drop)]
+#[derive(Clone, Copy)]
 pub struct Numbers {
     pub count: u64,
     pub mlen: u64,
@@ -13,7 +13,7 @@ pub struct Numbers {
 
 // What a file tells, in its order. Fields are numbered from 0, in the file's order.
 // Decoded bytes stand only once their field's end is told: a refusal in the same line takes them back.
-#[derive(Drop)]
+#[derive(Clone, Copy)]
 pub enum Event {
     Nothing,
     // a decoded byte of this field
@@ -28,7 +28,7 @@ pub enum Event {
 }
 
 // What becomes of the question for one field of one entry.
-#[derive(Drop)]
+#[derive(Clone, Copy)]
 pub enum Collected {
     // found, and its bytes written, all of them
     Written,

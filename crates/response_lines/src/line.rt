@@ -166,6 +166,7 @@ pub fn whole(fields: u8) -> bool
     fields == 8
 }
 
+#[tactic(auto, unfolding(response_machine::specs::Machine::closed))]
 pub fn close(fields: u8, line: Line) -> Closed
     ensures { result ≡ closed fields line }
 {

@@ -1,19 +1,16 @@
 -- Collecting a field: the value that the search found, decoded, is what `Collects` of response_format promises; where nothing was found nothing is written.
 -- Rests on Seeks, and on Lent of response_format.
-use Rattle.std.specs.Prelude.{◌≡◌, Bool, List, [], ◌∷◌, ℕ, ◌/◌, eqb, length}
+use Rattle.std.specs.Prelude.{◌≡◌, Bool, List, ℕ, ◌/◌, eqb, length}
 use Rattle.std.proofs.Math.Path.{refl, ap}
-use Rattle.std.proofs.Common.{sym, subst, ◌∙◌, arith, eq-eqb, ne_eqb, eqb-true}
+use Rattle.std.proofs.Common.{sym, ◌∙◌, arith}
 use Rattle.std.proofs.Math.Bool.{true, false}
-use Rattle.std.proofs.Math.Decide.{ℕ_discrete}
 use Rattle.ground.specs.Pick.{pick}
 use Rattle.ground.specs.Answers.{first, answer_of}
-use Rattle.ground.specs.AnswerLaws.{answer-done, number-of-answer}
-use Rattle.ground.specs.Answers.{number_of}
 use Rattle.ground.specs.declared.Answer.{Answer}
 use Rattle.ground.specs.declared.Answer.TheVariants as answer
 use Rattle.response_format.specs.Rules.{all_digits, paired}
 use Rattle.response_format.specs.Tells.{decoded}
-use Rattle.response_format.specs.Lent.{decode_rules, Decodes, Sought, value, none, sought_in, collected, contents, Collects}
+use Rattle.response_format.specs.Lent.{decode_rules, Decodes, value, none, sought_in, collected, contents, Collects}
 use Rattle.response_format.specs.declared.Collected.{Collected}
 use Rattle.response_format.specs.declared.Collected.TheVariants as out
 use Rattle.response_machine.specs.Seeks.{value_between, Here}

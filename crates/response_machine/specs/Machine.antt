@@ -1,5 +1,5 @@
 -- The reader's machine, byte by byte: what the code does, as functions of the state and the byte. Nothing here has to be believed: response_format says what is
--- right, and Reads, Events and Seeks prove that the machine does it. Rests on Fields, Rules and Tells of response_format.
+-- right, and proofs/Reading, Events and Seeks prove that the machine does it. Rests on Fields, Rules and Tells of response_format.
 use Rattle.std.specs.Prelude.{Bool, true, false, List, [], ◌∷◌, ℕ, ◌+◌, ◌-◌, ◌*◌, ◌%◌, eqb, ltb, leb, length, get_or}
 use Rattle.ground.specs.Pick.{pick, both}
 use Rattle.response_format.specs.Fields.{digit_of, label, is_number}

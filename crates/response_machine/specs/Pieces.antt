@@ -1,13 +1,12 @@
 -- Feeding a piece, place by place.
 -- Rests on Machine.
 use Rattle.std.specs.Prelude.{◌≡◌, refl, true, false, List, [], ◌∷◌, ℕ, zero, suc, ◌+◌, ◌<◌, ◌≤◌, length, get_or, drop}
-use Rattle.std.proofs.Common.{sym, ap, ◌∙◌, drop-cons, not-suc-le-zero, arith}
+use Rattle.std.proofs.Common.{drop-cons, not-suc-le-zero, arith}
 use Rattle.std.proofs.Math.Numerals.{add-one}
 use Rattle.response_machine.specs.Machine.{stepped, telling, stop, feeds}
 use Rattle.response_machine.specs.declared.Reader.{Reader}
 use Rattle.response_machine.specs.declared.Stepped.{Stepped}
 use Rattle.response_format.specs.declared.Event.TheVariants as event
-use Rattle.response_machine.specs.declared.Fed.{Fed}
 
 pub drop_all : (i : ℕ) (p : List ℕ) → length p ≤ i → drop i p ≡ []
 drop_all zero [] h = refl

@@ -1,9 +1,8 @@
 -- The search for " = ": the machine's count of its bytes that stand last finds it exactly where it stands.
 -- Rests on Rules and Machine.
-use Rattle.std.specs.Prelude.{◌≡◌, refl, Bool, true, false, List, [], ◌∷◌, ◌++◌, ℕ, eqb}
+use Rattle.std.specs.Prelude.{◌≡◌, refl, true, List, [], ◌∷◌, ◌++◌, ℕ, eqb}
 use Rattle.std.proofs.Common.{sym, ap, ◌∙◌, eq-eqb, ne_eqb}
 use Rattle.std.proofs.Math.Decide.{ℕ_discrete}
-use Rattle.ground.specs.Pick.{pick}
 use Rattle.response_format.specs.Rules.{begins, separated}
 use Rattle.response_machine.specs.Machine.{found}
 

@@ -1,11 +1,11 @@
-// The reader's machine, byte by byte: theory. The types are the code's own; specs/Machine says what each byte does, and Reads, Events and Seeks prove that this
+// The reader's machine, byte by byte: theory. The types are the code's own; specs/Machine says what each byte does, and proofs/Reading, Events and Seeks prove that this
 // means the format of response_format. The code stands in responses, so that an edit of it does not check the theory again.
 #![tactic(auto)]
 
 use response_format::{Event, Numbers};
 
 // What a line has come to, from its first byte to the last one read.
-#[derive(Drop)]
+#[derive(Clone, Copy)]
 pub enum Line {
     // nothing yet
     Empty,
@@ -30,7 +30,7 @@ pub enum Line {
 }
 
 // How many fields of the entry are read (8: all, and an empty line is due), its numbers, and the line.
-#[derive(Drop)]
+#[derive(Clone, Copy)]
 pub struct Reader {
     pub fields: u8,
     pub numbers: Numbers,
@@ -38,7 +38,7 @@ pub struct Reader {
 }
 
 // What a line is at its line feed.
-#[derive(Drop)]
+#[derive(Clone, Copy)]
 pub enum Closed {
     Gap,
     Skipped,
@@ -49,14 +49,14 @@ pub enum Closed {
 }
 
 // The reader after a byte, and what the byte brings.
-#[derive(Drop)]
+#[derive(Clone, Copy)]
 pub struct Stepped {
     pub reader: Reader,
     pub event: Event,
 }
 
 // A reader after a part of a piece: what was told last, and where the part ends.
-#[derive(Drop)]
+#[derive(Clone, Copy)]
 pub struct Fed {
     pub reader: Reader,
     pub event: Event,
@@ -64,7 +64,7 @@ pub struct Fed {
 }
 
 // Where the line of a field stands in a file, without its line feed; or nowhere: the file's refusal before it, 0 where the file ends and nothing is at fault.
-#[derive(Drop)]
+#[derive(Clone, Copy)]
 pub enum Place {
     Between(usize, usize),
     Nowhere(u32),

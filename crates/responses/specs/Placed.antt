@@ -1,13 +1,11 @@
 -- A text at the end of 80 bytes, zeros before it, and how it grows from the front.
 -- Rests on Text of response_format, and on the kit's lists.
-use Rattle.std.specs.Prelude.{◌≡◌, refl, List, [], ◌∷◌, ◌++◌, ℕ, zero, suc, ◌+◌, ◌-◌, ◌*◌, ◌/◌, ◌%◌, ◌<◌, ◌≤◌, eqb, leb, length, set, drop, replicate}
-use Rattle.std.proofs.Common.{sym, ap, ap₂, ◌∙◌, arith, length-append, drop_at, eq-eqb, ne_eqb, le-leb}
+use Rattle.std.specs.Prelude.{◌≡◌, refl, List, ◌∷◌, ◌++◌, ℕ, zero, suc, ◌+◌, ◌-◌, ◌/◌, ◌%◌, ◌<◌, ◌≤◌, eqb, leb, length, set, drop, replicate}
+use Rattle.std.proofs.Common.{sym, ap, ap₂, ◌∙◌, arith, drop_at, eq-eqb, ne_eqb, le-leb}
 use Rattle.std.proofs.Math.Decide.{ℕ_discrete}
-use Rattle.std.proofs.lemmas.List.{length-replicate, replicate-append-replicate, set_at}
-use Rattle.std.proofs.Math.Seq.{append_snoc}
+use Rattle.std.proofs.lemmas.List.{length-replicate, set_at}
 use Rattle.ground.specs.Pick.{pick}
 use Rattle.response_format.specs.Text.{digits_before}
-use Rattle.response_format.specs.Decimal.{digits-length}
 use Rattle.responses.specs.declared.Text.{Text}
 
 unfoldable pub placed : List ℕ → Text

@@ -134,6 +134,7 @@ pub fn end(reader: Reader) -> u32
 }
 
 // An entry or a refusal.
+#[tactic(auto, unfolding(response_machine::specs::Machine::telling))]
 fn telling(event: Event) -> bool
     ensures { result ≡ telling event }
 {

@@ -101,6 +101,7 @@ pub fn event_text(event: Event) -> Text
 }
 
 // The text of the refusal at a file's end: none for 0.
+#[tactic(auto, unfolding(response_format::specs::Text::end_text))]
 pub fn end_text(n: u32) -> Text
     ensures { result ≡ placed (end_text n) }
 {

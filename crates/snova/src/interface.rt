@@ -6,8 +6,7 @@ ghost use Rattle.snova.specs.Interface.{Keygen, Sign, Verify, Status, Pack, Unpa
 use sets::Set;
 
 // Key generation: 0, 10, 11, 13 or 20.
-#[unsafe(no_mangle)]
-pub extern "C" fn snova_keygen(
+pub fn snova_keygen(
     v: usize,
     o: usize,
     l: usize,
@@ -21,8 +20,7 @@ pub extern "C" fn snova_keygen(
 }
 
 // Signing: 0, 2, 10, 11, 12, 13, 14, 15, 17, 19, 20 or 21.
-#[unsafe(no_mangle)]
-pub extern "C" fn snova_sign(
+pub fn snova_sign(
     v: usize,
     o: usize,
     l: usize,
@@ -52,8 +50,7 @@ pub extern "C" fn snova_sign(
 }
 
 // The verdict: 0, 1, 10, 11, 12, 15, 16, 18 or 21.
-#[unsafe(no_mangle)]
-pub extern "C" fn snova_verify(
+pub fn snova_verify(
     v: usize,
     o: usize,
     l: usize,
@@ -69,24 +66,21 @@ pub extern "C" fn snova_verify(
 }
 
 // Whether the set and the signature's length allow a salt: 0, 10 or 18.
-#[unsafe(no_mangle)]
-pub extern "C" fn snova_salt_status(v: usize, o: usize, l: usize, signature: &[u8]) -> u32
+pub fn snova_salt_status(v: usize, o: usize, l: usize, signature: &[u8]) -> u32
     ensures { Status (set_of v o l) signature.now result }
 {
     ground::number(salt::salt_status(Set { v, o, l }, signature))
 }
 
 // Packing: 0, 22 or 23.
-#[unsafe(no_mangle)]
-pub extern "C" fn snova_pack(elements: &[u8], bytes: &mut [u8]) -> u32
+pub fn snova_pack(elements: &[u8], bytes: &mut [u8]) -> u32
     ensures { Pack elements.now bytes.old result bytes.new }
 {
     ground::number(packing::pack(elements, bytes))
 }
 
 // Unpacking: 0 or 22.
-#[unsafe(no_mangle)]
-pub extern "C" fn snova_unpack(bytes: &[u8], elements: &mut [u8]) -> u32
+pub fn snova_unpack(bytes: &[u8], elements: &mut [u8]) -> u32
     ensures { Unpack bytes.now elements.old result elements.new }
 {
     ground::number(packing::unpack(bytes, elements))

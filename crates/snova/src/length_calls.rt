@@ -9,64 +9,56 @@ ghost use Rattle.sets.specs.Sets.{public_bytes, abq_bytes, private_bytes, vinega
 use sets::Set;
 
 // The public stream.
-#[unsafe(no_mangle)]
-pub extern "C" fn snova_public_bytes(v: usize, o: usize, l: usize) -> usize
+pub fn snova_public_bytes(v: usize, o: usize, l: usize) -> usize
     ensures { result ≡ pick (allowed_set (set_of v o l)) (public_bytes (set_of v o l)) 0 }
 {
     sets::public_bytes(Set { v, o, l })
 }
 
 // The ABQ stream.
-#[unsafe(no_mangle)]
-pub extern "C" fn snova_abq_bytes(v: usize, o: usize, l: usize) -> usize
+pub fn snova_abq_bytes(v: usize, o: usize, l: usize) -> usize
     ensures { result ≡ pick (allowed_set (set_of v o l)) (abq_bytes (set_of v o l)) 0 }
 {
     sets::abq_bytes(Set { v, o, l })
 }
 
 // The private stream.
-#[unsafe(no_mangle)]
-pub extern "C" fn snova_private_bytes(v: usize, o: usize, l: usize) -> usize
+pub fn snova_private_bytes(v: usize, o: usize, l: usize) -> usize
     ensures { result ≡ pick (allowed_set (set_of v o l)) (private_bytes (set_of v o l)) 0 }
 {
     sets::private_bytes(Set { v, o, l })
 }
 
 // The vinegar stream.
-#[unsafe(no_mangle)]
-pub extern "C" fn snova_vinegar_bytes(v: usize, o: usize, l: usize) -> usize
+pub fn snova_vinegar_bytes(v: usize, o: usize, l: usize) -> usize
     ensures { result ≡ pick (allowed_set (set_of v o l)) (vinegar_bytes (set_of v o l)) 0 }
 {
     sets::vinegar_bytes(Set { v, o, l })
 }
 
 // The target.
-#[unsafe(no_mangle)]
-pub extern "C" fn snova_target_bytes(v: usize, o: usize, l: usize) -> usize
+pub fn snova_target_bytes(v: usize, o: usize, l: usize) -> usize
     ensures { result ≡ pick (allowed_set (set_of v o l)) (target_bytes (set_of v o l)) 0 }
 {
     sets::target_bytes(Set { v, o, l })
 }
 
 // The key.
-#[unsafe(no_mangle)]
-pub extern "C" fn snova_key_bytes(v: usize, o: usize, l: usize) -> usize
+pub fn snova_key_bytes(v: usize, o: usize, l: usize) -> usize
     ensures { result ≡ pick (allowed_set (set_of v o l)) (key_bytes (set_of v o l)) 0 }
 {
     sets::key_bytes(Set { v, o, l })
 }
 
 // The signature, its salt included.
-#[unsafe(no_mangle)]
-pub extern "C" fn snova_signature_bytes(v: usize, o: usize, l: usize) -> usize
+pub fn snova_signature_bytes(v: usize, o: usize, l: usize) -> usize
     ensures { result ≡ pick (allowed_set (set_of v o l)) (signature_bytes (set_of v o l)) 0 }
 {
     sets::signature_bytes(Set { v, o, l })
 }
 
 // The work area.
-#[unsafe(no_mangle)]
-pub extern "C" fn snova_work_bytes(v: usize, o: usize, l: usize) -> usize
+pub fn snova_work_bytes(v: usize, o: usize, l: usize) -> usize
     ensures { result ≡ pick (allowed_set (set_of v o l)) (work_bytes (set_of v o l)) 0 }
 {
     sets::work_bytes(Set { v, o, l })

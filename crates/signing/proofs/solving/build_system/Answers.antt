@@ -49,14 +49,17 @@ slice_bounds-fill_left-end-3 c = sym c.private_table.auto.t
 
 pub fill_left-requires : goal.fill_left-requires
 fill_left-requires c =
-    let b = c.requires.bounds.0 in record { bounds = (b, left-room b); public_len = (
+    let b = c.requires.bounds.0 in record {
+      bounds = (b, left-room b);
+      public_len = (
         c.requires.public_len.0,
         (
           kept-room (vinegar-powers-room b) c.load_vinegar.auto.x,
           kept-room (private-room b)
               c.private_table.auto.t,
         ),
-      ) }
+      );
+    }
 
 pub slice_bounds-fill_right-end : goal.slice_bounds-fill_right-end
 slice_bounds-fill_right-end c = refl
@@ -107,4 +110,4 @@ returns c =
     c.load_vinegar.new.x c.private_table.new.t c.fill_left.new.left c.fill_right.new.right
     c.fill_right.new.sums c.powers_of_s.new.sp
     c.load_vinegar.ensures c.private_table.ensures.holds c.powers_of_s.ensures.holds
-    c.fill_left.ensures c.fill_right.ensures.0 c.fill_right.ensures.1 c.build.ensures)
+    c.fill_left.ensures c.fill_right.ensures.right_holds c.fill_right.ensures.sums_hold c.build.ensures)

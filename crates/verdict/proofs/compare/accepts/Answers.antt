@@ -2,7 +2,7 @@
 use mathlib.Core.Path.{refl, ◌∙◌}
 use Prim.Native.Nat.{◌*◌, ◌≤◌}
 use Rattle.rows.specs.Zero.{length-zeros}
-use Rattle.sets.specs.Sets.{most_row, target_bytes, signature_count, signature_bytes, variables}
+use Rattle.sets.specs.Sets.{most_row, target_bytes, signature_bytes, variables}
 use Rattle.sets.specs.Bounds.{Bounds}
 use Rattle.sets.proofs.Bounds.{bounds}
 use Rattle.sets.specs.Rooms.{list_room, list-room}

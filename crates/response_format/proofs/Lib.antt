@@ -1,0 +1,3 @@
+pub mod Labels
+pub mod Accepts
+pub mod Name

@@ -1,0 +1,82 @@
+// Page 01's operations. Each export calls the function of `snova` with the same name, and promises what it promises.
+ghost use Rattle.sets.specs.Table.{set_of};
+ghost use Rattle.snova.specs.Interface.{Keygen, Sign, Verify, Status, Pack, Unpack};
+
+// Key generation: 0, 10, 11, 13 or 20.
+#[unsafe(no_mangle)]
+pub extern "C" fn snova_keygen(
+    v: usize,
+    o: usize,
+    l: usize,
+    public: &[u8],
+    private: &[u8],
+    key: &mut [u8],
+) -> u32
+    ensures { Keygen (set_of v o l) public.now private.now key.old result key.new }
+{
+    snova::snova_keygen(v, o, l, public, private, key)
+}
+
+// Signing: 0, 2, 10, 11, 12, 13, 14, 15, 17, 19, 20 or 21.
+#[unsafe(no_mangle)]
+pub extern "C" fn snova_sign(
+    v: usize,
+    o: usize,
+    l: usize,
+    public: &[u8],
+    abq: &[u8],
+    private: &[u8],
+    vinegar: &[u8],
+    target: &[u8],
+    salt: &[u8],
+    work: &mut [u8],
+    signature: &mut [u8],
+) -> u32
+    ensures { Sign (set_of v o l) public.now abq.now private.now vinegar.now target.now salt.now
+        work.old signature.old result work.new signature.new }
+{
+    snova::snova_sign(
+        v, o, l, public, abq, private, vinegar, target, salt, work, signature,
+    )
+}
+
+// The verdict: 0, 1, 10, 11, 12, 15, 16, 18 or 21.
+#[unsafe(no_mangle)]
+pub extern "C" fn snova_verify(
+    v: usize,
+    o: usize,
+    l: usize,
+    public: &[u8],
+    abq: &[u8],
+    target: &[u8],
+    key: &[u8],
+    signature: &[u8],
+) -> u32
+    ensures { Verify (set_of v o l) public.now abq.now target.now key.now signature.now result }
+{
+    snova::snova_verify(v, o, l, public, abq, target, key, signature)
+}
+
+// Whether the set and the signature's length allow a salt: 0, 10 or 18.
+#[unsafe(no_mangle)]
+pub extern "C" fn snova_salt_status(v: usize, o: usize, l: usize, signature: &[u8]) -> u32
+    ensures { Status (set_of v o l) signature.now result }
+{
+    snova::snova_salt_status(v, o, l, signature)
+}
+
+// Packing: 0, 22 or 23.
+#[unsafe(no_mangle)]
+pub extern "C" fn snova_pack(elements: &[u8], bytes: &mut [u8]) -> u32
+    ensures { Pack elements.now bytes.old result bytes.new }
+{
+    snova::snova_pack(elements, bytes)
+}
+
+// Unpacking: 0 or 22.
+#[unsafe(no_mangle)]
+pub extern "C" fn snova_unpack(bytes: &[u8], elements: &mut [u8]) -> u32
+    ensures { Unpack bytes.now elements.old result elements.new }
+{
+    snova::snova_unpack(bytes, elements)
+}
