@@ -6,7 +6,8 @@ use Rattle.ground.specs.Answers.{first, first-append, met-none, met-more, first-
 use Rattle.ground.specs.First.{first-parts, first_passes}
 use Rattle.sets.specs.declared.Set.{Set}
 use Rattle.sets.specs.Sets.{allowed_set, public_bytes, private_bytes, vinegar_bytes, target_bytes, key_bytes, signature_bytes, work_bytes, salt_bytes}
-use Rattle.sets.specs.Bounds.{Bounds, bounds}
+use Rattle.sets.specs.Bounds.{Bounds}
+use Rattle.sets.proofs.Bounds.{bounds}
 use Rattle.refusals.specs.Rules.{sign_rules, verdict_rules}
 use Rattle.refusals.specs.Fits.{sign_fits, verdict-fits, verdict-met, verdict-exact}
 use Rattle.scheme.specs.Maps.{all_invertible}

@@ -10,7 +10,8 @@ use Rattle.sets.specs.Sets.{public_count, vinegar_count, target_count, signature
 use Rattle.sets.specs.Bounds.{Limits}
 use Rattle.scheme.specs.Streams.{vinegar_of}
 use Rattle.scheme.specs.Refusals.{verdict_refusals}
-use Rattle.scheme.specs.Verdict.{accepted, zero-signature-elements}
+use Rattle.scheme.specs.Verdict.{accepted}
+use Rattle.scheme.proofs.Verdict.{zero-signature-elements}
 use Rattle.verdict.specs.declared.Verdict.{Verdict}
 use Rattle.verdict.specs.declared.Verdict.TheVariants.{Accepted, NotAccepted}
 use Rattle.verdict.specs.Promise.{verdict_of, Verifies}

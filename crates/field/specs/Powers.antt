@@ -1,7 +1,7 @@
 -- Powers in GF(16), and the inverse as the fourteenth: the square of the power at half the exponent, times the base where the exponent is odd.
 -- Rests on Laws, and on one computed test: the fifteenth power of what is not 0 is 1.
 use Rattle.std.specs.Prelude.{◌≡◌, refl, true, ℕ, zero, suc, ◌+◌, ◌/◌, ◌%◌, ◌<◌, eqb}
-use Rattle.std.proofs.Common.{sym, ap, ap₂, ◌∙◌, zero-add as zero-plus, suc-add as suc-plus, arith, ne_eqb, eqb→eq}
+use Rattle.std.proofs.Common.{sym, ap, ◌∙◌, zero-add as zero-plus, suc-add as suc-plus, arith, ne_eqb, eqb→eq}
 use Rattle.std.proofs.Math.Decide.{ℕ_discrete}
 use Rattle.ground.specs.Pick.{pick}
 use Rattle.ground.specs.Tests.{below}

@@ -2,38 +2,37 @@
 #![tactic(auto)]
 
 use field::{inverse, power};
-use libc::STDOUT_FILENO;
+use std::io;
 
 // Writes a text, and an element after it.
-fn put(text: &[u8], x: u8) {
-    io::write_all(STDOUT_FILENO, text);
-    io::print_decimal(STDOUT_FILENO, x as u64);
+fn put(rt: &impl Print, text: &str, x: u8) -> io::Result<()> {
+    print!(rt; "{text}{x}")
 }
 
 // The line of one element: its powers in the order in which the recursion meets them, and the inverse.
-fn line(a: u8) {
-    put(b"a = ", power(a, 1));
-    put(b": a^2 = ", power(a, 2));
-    put(b", a^3 = ", power(a, 3));
-    put(b", a^6 = ", power(a, 6));
-    put(b", a^7 = ", power(a, 7));
-    put(b", a^14 = ", power(a, 14));
-    put(b"; inverse ", inverse(a));
-    io::write_all(STDOUT_FILENO, b"\n");
+fn line(rt: &impl Print, a: u8) -> io::Result<()> {
+    put(rt, "a = ", power(a, 1))?;
+    put(rt, ": a^2 = ", power(a, 2))?;
+    put(rt, ", a^3 = ", power(a, 3))?;
+    put(rt, ", a^6 = ", power(a, 6))?;
+    put(rt, ", a^7 = ", power(a, 7))?;
+    put(rt, ", a^14 = ", power(a, 14))?;
+    put(rt, "; inverse ", inverse(a))?;
+    println!(rt)
 }
 
 // The lines of four elements, from a on; a is read modulo 16, so that no sum is too large for a byte.
-fn four(a: u8) {
+fn four(rt: &impl Print, a: u8) -> io::Result<()> {
     let first = a % 16;
-    line(first);
-    line(first + 1);
-    line(first + 2);
-    line(first + 3);
+    line(rt, first)?;
+    line(rt, first + 1)?;
+    line(rt, first + 2)?;
+    line(rt, first + 3)
 }
 
-fn main() {
-    four(0);
-    four(4);
-    four(8);
-    four(12);
+fn main(rt: HostRuntime) -> io::Result<()> {
+    four(&rt, 0)?;
+    four(&rt, 4)?;
+    four(&rt, 8)?;
+    four(&rt, 12)
 }

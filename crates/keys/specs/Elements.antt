@@ -5,7 +5,7 @@ use Rattle.std.proofs.Common.{sym, ap, subst, ◌∙◌, zero-add, div-add-mod',
 use Rattle.std.proofs.Math.Arith.{digits_div, digits_mod}
 use Rattle.ground.specs.Fill.{tab, length-tab, get_or-tab}
 use Rattle.packing.specs.Packing.{element, packed_bytes, Bytes}
-use Rattle.packing.specs.Laws.{packed-ext}
+use Rattle.packing.proofs.Laws.{packed-ext}
 use Rattle.packing.specs.Written.{Put, Written, written_none, written_then, written-cong}
 use Rattle.rows.specs.Tile.{tile}
 use Rattle.sets.specs.declared.Set.{Set}

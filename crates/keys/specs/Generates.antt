@@ -10,6 +10,6 @@ use Rattle.scheme.specs.Refusals.{keygen_refusals}
 
 -- Any set and any three buffers are answered. Where the set is not allowed or a buffer has another length than the set asks for, the answer is the
 -- first refusal of 10, 11, 13 and 20 that applies, and the output is as it was. Else it is 0, and the output is the key, whole:
--- P22 = T12ᵗ-as-F12 + P21-as-T12 of every i, block by block, two elements to a byte, and zero in the spare half.
+-- P22 = T12ᵗ·F12 + P21·T12 of every i, block by block, two elements to a byte, and zero in the spare half.
 abbrev pub Generates : (set : Set) (public private before : List ℕ) (r : Answer) (after : List ℕ) → Type 0
 Generates set public private before r after = Writes (first (keygen_refusals set public private before)) (key_of set public private) before r after

@@ -1,5 +1,5 @@
 -- F21 and P22 of matrix i as byte tables: what each row gains, and that the tables filled so hold sums of products of blocks.
--- P22 is made as T12ᵗ-as-P12 + F21-as-T12, which is page 01's T12ᵗ-as-F12 + P21-as-T12 (`key-by-f21`). Rests on tables' Table, Gains, Entries and Sums.
+-- P22 is made as T12ᵗ·P12 + F21·T12, which is page 01's T12ᵗ·F12 + P21·T12 (`key-by-f21`). Rests on tables' Table, Gains, Entries and Sums.
 use Rattle.std.specs.Prelude.{◌≡◌, List, ℕ, ◌+◌, ◌*◌, ◌/◌, ◌%◌, ◌<◌, length}
 use Rattle.std.proofs.Math.Path.{refl, ap, ap₂}
 use Rattle.std.proofs.Common.{sym, ◌∙◌, le_refl, arith}
@@ -66,7 +66,7 @@ module _ (set : Set) (public : List ℕ) where
   unfoldable pub f21_row : (t : List ℕ) (i y : ℕ) → ℕ → ℕ
   f21_row t i y z = add (p21_row i y z) (left_gain set.l set.v t (set.o * set.l) public (p11_number set i 0 0) set.v y z)
 
-  -- P21 + Tᵗ-as-P11 for the blocks T of a table
+  -- P21 + Tᵗ·P11 for the blocks T of a table
   unfoldable pub f21_of : (T : ℕ → ℕ → Matrix) → ℕ → ℕ → ℕ → Matrix
   f21_of T i k j = add_m (P21 set public i k j) (sum_m set.v (λ a. mul_m set.l (transpose (T a k)) (P11 set public i a j)))
 
@@ -95,7 +95,7 @@ module _ (set : Set) (public : List ℕ) where
       add (left_gain set.l set.v t (set.o * set.l) public (p12_number set i 0 0) set.o y z)
       (times_gain (rows_of (set.v * set.l) f) (set.v * set.l) (rows_of (set.o * set.l) t) y z)
 
-  -- Tᵗ-as-P12 + F-as-T for the blocks T and F of two tables
+  -- Tᵗ·P12 + F·T for the blocks T and F of two tables
   unfoldable pub p22_of : (T F : ℕ → ℕ → Matrix) → ℕ → ℕ → ℕ → Matrix
   p22_of T F i j k =
       add_m (sum_m set.v (λ a. mul_m set.l (transpose (T a j)) (P12 set public i a k))) (sum_m set.v (λ b. mul_m set.l (F j b) (T b k)))

@@ -6,8 +6,8 @@ use Rattle.std.proofs.Math.Decide.{dec_lt}
 use Rattle.ground.specs.Outcome.{unique-writes}
 use Rattle.ground.specs.declared.Answer.{Answer}
 use Rattle.packing.specs.Packing.{element, Bytes}
-use Rattle.packing.specs.Laws.{element-ext}
-use Rattle.packing.specs.Written.{written-unique}
+use Rattle.packing.proofs.Laws.{element-ext}
+use Rattle.packing.proofs.Written.{written-unique}
 use Rattle.sets.specs.declared.Set.{Set}
 use Rattle.sets.specs.Sets.{key_count, key_bytes}
 use Rattle.scheme.specs.Streams.{T12}

@@ -1,4 +1,4 @@
-// F21 = P21 + T12ᵗ.P11 and P22 = T12ᵗ.P12 + F21.T12 of one matrix, as byte tables. This P22 is page 01's T12ᵗ.F12 + P21.T12 (`key-by-f21` of
+// F21 = P21 + T12ᵗ·P11 and P22 = T12ᵗ·P12 + F21·T12 of one matrix, as byte tables. This P22 is page 01's T12ᵗ·F12 + P21·T12 (`key-by-f21` of
 // specs/Parts.antt): so the products with P11, which are most of the work, are taken in rows of v·l bytes, not in the short rows of o·l bytes.
 ghost use Rattle.std.specs.Prelude.{◌≡◌, ℕ, ◌*◌, ◌<◌, ◌≤◌, length};
 ghost use Rattle.rows.specs.PlusRows.{PlusRows};

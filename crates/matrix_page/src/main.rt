@@ -3,48 +3,47 @@
 #![tactic(auto)]
 
 use ground::number;
-use libc::STDOUT_FILENO;
 use matrix::{Made, Value, determinant_of, make_invertible, ring_element, s_power};
+use std::io;
 
 // Writes a number, after a space.
-fn put(n: u32) {
-    io::write_all(STDOUT_FILENO, b" ");
-    io::print_decimal(STDOUT_FILENO, n as u64);
+fn put(rt: &impl Print, n: u32) -> io::Result<()> {
+    print!(rt; " {n}")
 }
 
-fn end() {
-    io::write_all(STDOUT_FILENO, b"\n");
+fn end(rt: &impl Print) -> io::Result<()> {
+    println!(rt)
 }
 
 // Writes four elements.
-fn put_four(a: u8, b: u8, c: u8, d: u8) {
-    put(a as u32);
-    put(b as u32);
-    put(c as u32);
-    put(d as u32);
-    end();
+fn put_four(rt: &impl Print, a: u8, b: u8, c: u8, d: u8) -> io::Result<()> {
+    put(rt, a as u32)?;
+    put(rt, b as u32)?;
+    put(rt, c as u32)?;
+    put(rt, d as u32)?;
+    end(rt)
 }
 
 // Writes the four entries of a 2 by 2 matrix, row by row.
-fn put_two(m: [u8; 25]) {
-    put_four(m[0], m[1], m[5], m[6]);
+fn put_two(rt: &impl Print, m: [u8; 25]) -> io::Result<()> {
+    put_four(rt, m[0], m[1], m[5], m[6])
 }
 
 // Writes the number of an answer, and the 2 by 2 matrix beside it.
-fn put_made(made: Made) {
+fn put_made(rt: &impl Print, made: Made) -> io::Result<()> {
     let answer = made.answer;
     let block = made.block;
-    put(number(answer));
-    put_two(block);
+    put(rt, number(answer))?;
+    put_two(rt, block)
 }
 
 // Writes a determinant, or a refusal's number.
-fn put_value(value: Value) {
+fn put_value(rt: &impl Print, value: Value) -> io::Result<()> {
     match value {
-        Value::Is(x) => put(x as u32),
-        Value::Refused(n) => put(n),
+        Value::Is(x) => put(rt, x as u32)?,
+        Value::Refused(n) => put(rt, n)?,
     }
-    end();
+    end(rt)
 }
 
 // The 2 by 2 matrix of four entries.
@@ -58,52 +57,52 @@ fn two(a: u8, b: u8, c: u8, d: u8) -> [u8; 25] {
 }
 
 // S, its square and its determinant.
-fn powers() {
-    io::write_all(STDOUT_FILENO, b"S, l = 2:");
-    put_two(s_power(2, 1));
-    io::write_all(STDOUT_FILENO, b"S squared, l = 2:");
-    put_two(s_power(2, 2));
-    io::write_all(STDOUT_FILENO, b"determinant of S, l = 2:");
-    put_value(determinant_of(2, s_power(2, 1)));
+fn powers(rt: &impl Print) -> io::Result<()> {
+    print!(rt; "S, l = 2:")?;
+    put_two(rt, s_power(2, 1))?;
+    print!(rt; "S squared, l = 2:")?;
+    put_two(rt, s_power(2, 2))?;
+    print!(rt; "determinant of S, l = 2:")?;
+    put_value(rt, determinant_of(2, s_power(2, 1)))
 }
 
-fn first_row() {
+fn first_row(rt: &impl Print) -> io::Result<()> {
     let square = s_power(4, 2);
-    io::write_all(STDOUT_FILENO, b"first row of S squared, l = 4:");
-    put_four(square[0], square[1], square[2], square[3]);
+    print!(rt; "first row of S squared, l = 4:")?;
+    put_four(rt, square[0], square[1], square[2], square[3])
 }
 
 // Algorithm 1 at the coefficients (a, 0).
-fn element(text: &[u8], l: usize, a: u8) {
-    io::write_all(STDOUT_FILENO, text);
-    put_made(ring_element(l, [a, 0, 0, 0, 0]));
+fn element(rt: &impl Print, text: &str, l: usize, a: u8) -> io::Result<()> {
+    print!(rt; "{text}")?;
+    put_made(rt, ring_element(l, [a, 0, 0, 0, 0]))
 }
 
 // Algorithm 2 of the matrix (a b; b c).
-fn shifted(text: &[u8], l: usize, a: u8, b: u8, c: u8) {
-    io::write_all(STDOUT_FILENO, text);
-    put_made(make_invertible(l, two(a, b, b, c)));
+fn shifted(rt: &impl Print, text: &str, l: usize, a: u8, b: u8, c: u8) -> io::Result<()> {
+    print!(rt; "{text}")?;
+    put_made(rt, make_invertible(l, two(a, b, b, c)))
 }
 
-fn elements() {
-    element(b"Algorithm 1 of (0, 0):", 2, 0);
-    element(b"Algorithm 1 of (3, 0):", 2, 3);
-    element(b"Algorithm 1 of (15, 0):", 2, 15);
-    element(b"Algorithm 1 of (16, 0):", 2, 16);
-    element(b"Algorithm 1, l = 1:", 1, 16);
+fn elements(rt: &impl Print) -> io::Result<()> {
+    element(rt, "Algorithm 1 of (0, 0):", 2, 0)?;
+    element(rt, "Algorithm 1 of (3, 0):", 2, 3)?;
+    element(rt, "Algorithm 1 of (15, 0):", 2, 15)?;
+    element(rt, "Algorithm 1 of (16, 0):", 2, 16)?;
+    element(rt, "Algorithm 1, l = 1:", 1, 16)
 }
 
-fn shifts() {
-    shifted(b"Algorithm 2 of (0 0; 0 0):", 2, 0, 0, 0);
-    shifted(b"Algorithm 2 of (9 0; 0 0):", 2, 9, 0, 0);
-    shifted(b"Algorithm 2 of (8 7; 7 6):", 2, 8, 7, 6);
-    shifted(b"Algorithm 2 of (0 0; 0 16):", 2, 0, 0, 16);
-    shifted(b"Algorithm 2, l = 5:", 5, 0, 0, 16);
+fn shifts(rt: &impl Print) -> io::Result<()> {
+    shifted(rt, "Algorithm 2 of (0 0; 0 0):", 2, 0, 0, 0)?;
+    shifted(rt, "Algorithm 2 of (9 0; 0 0):", 2, 9, 0, 0)?;
+    shifted(rt, "Algorithm 2 of (8 7; 7 6):", 2, 8, 7, 6)?;
+    shifted(rt, "Algorithm 2 of (0 0; 0 16):", 2, 0, 0, 16)?;
+    shifted(rt, "Algorithm 2, l = 5:", 5, 0, 0, 16)
 }
 
-fn main() {
-    powers();
-    first_row();
-    elements();
-    shifts();
+fn main(rt: HostRuntime) -> io::Result<()> {
+    powers(&rt)?;
+    first_row(&rt)?;
+    elements(&rt)?;
+    shifts(&rt)
 }

@@ -10,7 +10,7 @@ use Rattle.ground.specs.Outcome.{Writes}
 use Rattle.ground.specs.declared.Answer.{Answer}
 use Rattle.ground.specs.declared.Answer.TheVariants as Answers
 use Rattle.packing.specs.Packing.{packed_bytes}
-use Rattle.packing.specs.Laws.{length-packed}
+use Rattle.packing.proofs.Laws.{length-packed}
 use Rattle.sets.specs.declared.Set.{Set}
 use Rattle.sets.specs.Sets.{signature_bytes, salt_bytes}
 use Rattle.sets.specs.Bounds.{allowed-from}

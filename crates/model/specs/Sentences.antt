@@ -15,7 +15,7 @@ use Rattle.field.specs.Field.{add, mul, inverse, power}
 use Rattle.field.specs.Laws.{mul-inverse, inverse-zero}
 use Rattle.field.specs.Checked.{powers-of-2}
 use Rattle.packing.specs.Packing.{packed, unpacked, pack_rules, unpack_rules, Packs, Unpacks}
-use Rattle.packing.specs.RoundTrip.{pack-then-unpack}
+use Rattle.packing.proofs.RoundTrip.{pack-then-unpack}
 use Rattle.sets.specs.declared.Set.{Set}
 use Rattle.sets.specs.Sets.{variables}
 use Rattle.refusals.specs.Rules.{keygen_rules, sign_rules, verdict_rules, salt_rules}
@@ -32,12 +32,12 @@ use Rattle.matrix.specs.declared.Value.{Value}
 use Rattle.matrix.specs.declared.Value.TheVariants.{Is}
 use Rattle.scheme.specs.Streams.{P22, target_of, vinegar_of, signature_of}
 use Rattle.scheme.specs.Maps.{key_p22, key_of, public_map, central_map, private_change}
-use Rattle.scheme.specs.Composition.{private-change-own-inverse}
-use Rattle.scheme.specs.Entries.{private_change-same}
-use Rattle.scheme.specs.Key.{key-composition, key_of-holds}
+use Rattle.scheme.proofs.Composition.{private-change-own-inverse}
+use Rattle.scheme.proofs.Entries.{private_change-same}
+use Rattle.scheme.proofs.KeyLaws.{key-composition, key_of-holds}
 use Rattle.scheme.specs.Oil.{Redo, joined, joined-vinegar}
 use Rattle.scheme.specs.Refusals.{keygen_refusals, verdict_refusals}
-use Rattle.scheme.specs.Verdict.{accepted-exactly}
+use Rattle.scheme.proofs.Verdict.{accepted-exactly}
 use Rattle.scheme.specs.Verdict.{accepted as accepted_test}
 use Rattle.rows.specs.Zero.{zeros}
 use Rattle.keys.specs.Generates.{Generates}

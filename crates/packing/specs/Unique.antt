@@ -1,12 +1,11 @@
 -- No second outcome meets a contract of this crate: the answer and every lent buffer are fixed by what went in.
--- Rests on Written and on ground's Outcome. `element`, `in_field` and `packed_bytes` are equations with a definition: ground's `unique-equation`.
+-- `put` stands in proofs/Unique. Rests on ground's Outcome. `element`, `in_field` and `packed_bytes` are equations with a definition: ground's `unique-equation`.
 use Rattle.std.specs.Prelude.{◌≡◌, List, ℕ, ◌*◌}
 use Rattle.std.proofs.Common.{sym, ◌∙◌, arith, ext_get_or}
 use Rattle.std.proofs.Math.Decide.{dec_lt}
 use Rattle.ground.specs.Outcome.{unique-writes, unique-equation}
 use Rattle.ground.specs.declared.Answer.{Answer}
-use Rattle.packing.specs.Packing.{element, packed_bytes, Packs, Unpacks, Bytes}
-use Rattle.packing.specs.Written.{Put, put-unique}
+use Rattle.packing.specs.Packing.{element, packed_bytes, Packs, Unpacks}
 use Rattle.packing.specs.Spread.{Spread}
 
 pub unique-pack : (elements : List ℕ) {before : List ℕ} {r r' : Answer} {after after' : List ℕ} → Packs elements before r after → Packs elements before r' after'
@@ -16,9 +15,6 @@ unique-pack elements a b = unique-writes a b
 pub unique-unpack : (bytes : List ℕ) {before : List ℕ} {r r' : Answer} {after after' : List ℕ} → Unpacks bytes before r after → Unpacks bytes before r' after'
     → (r ≡ r') × (after ≡ after')
 unique-unpack bytes a b = unique-writes a b
-
-pub unique-put : {s t u : List ℕ} {e x : ℕ} → Bytes t → Bytes u → Put s e x t → Put s e x u → t ≡ u
-unique-put bt bu a b = put-unique bt bu a b
 
 pub unique-element : (s : List ℕ) (e : ℕ) {r r' : ℕ} → r ≡ element s e → r' ≡ element s e → r ≡ r'
 unique-element s e a b = unique-equation a b

@@ -66,6 +66,7 @@ pub fn put(s: &mut [u8], e: usize, x: u8)
 }
 
 // No element is above 15.
+#[tactic(auto, using(crate::proofs::Laws::in_field_stop))]
 fn in_field(elements: &[u8]) -> bool
     ensures { result ≡ in_field elements.now }
 {

@@ -1,6 +1,6 @@
 -- No second outcome meets a contract of this crate. Of the tables that it makes for itself every byte is fixed; what stands behind a table is not promised.
 -- Rests on tables' blocks.
-use Rattle.std.specs.Prelude.{◌≡◌, List, ℕ, ◌+◌, ◌*◌, ◌/◌, ◌%◌, ◌<◌, get_or}
+use Rattle.std.specs.Prelude.{◌≡◌, List, ℕ, ◌*◌, ◌/◌, ◌%◌, ◌<◌, get_or}
 use Rattle.std.proofs.Common.{sym, ap, subst, ◌∙◌, mul-pos, div-add-mod', div-lt_iff_lt-mul, mod-lt, arith, ext_get_or}
 use Rattle.std.proofs.Math.Decide.{dec_lt}
 use Rattle.sets.specs.declared.Set.{Set}

@@ -1,7 +1,7 @@
 -- The values of the public map as a buffer holds them: entry (r, c) of equation i at place i·l² + r·l + c.
 -- Rests on scheme's public_map, and on terms' equation from a table of power sums.
 use Rattle.std.specs.Prelude.{◌≡◌, refl, List, ℕ, ◌+◌, ◌*◌, ◌/◌, ◌%◌, ◌<◌, ◌≤◌, length, get_or}
-use Rattle.std.proofs.Common.{sym, ap, ap₂, ◌∙◌, not-suc-le-zero, arith}
+use Rattle.std.proofs.Common.{ap₂, ◌∙◌, not-suc-le-zero, arith}
 use Rattle.std.proofs.Math.Decide.{dec_lt}
 use Rattle.std.proofs.Math.Arith.{digits_lt, digits_div, digits_mod}
 use Rattle.ground.specs.Place.{row_fits}

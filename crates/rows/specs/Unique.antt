@@ -4,7 +4,8 @@ use Rattle.std.specs.Prelude.{◌≡◌, List, ℕ, ◌+◌, ◌*◌, length, ge
 use Rattle.ground.specs.Outcome.{unique-equation}
 use Rattle.field.specs.Field.{mul}
 use Rattle.packing.specs.Packing.{element, Bytes}
-use Rattle.packing.specs.Written.{Written, written-unique}
+use Rattle.packing.specs.Written.{Written}
+use Rattle.packing.proofs.Written.{written-unique}
 use Rattle.rows.specs.Plus.{Plus, plus-unique}
 use Rattle.rows.specs.Combine.{combination}
 use Rattle.rows.specs.Zero.{zeros}

@@ -1,33 +1,36 @@
 // The salt of a signature, run for the set (1,1,2): 4 bytes of elements, then 16 of salt. Each line is the number of the second call, and the bytes that were handed back.
 #![tactic(auto)]
 
-use libc::STDOUT_FILENO;
 use sets::Set;
+use std::io;
+use std::io::Write;
 
-fn show(asked: &[u8], set: Set, signature: &[u8]) {
-    io::write_all(STDOUT_FILENO, asked);
+fn show(rt: &impl Print, asked: &str, set: Set, signature: &[u8]) -> io::Result<()> {
     let status = salt::salt_status(set, signature);
-    io::print_decimal(STDOUT_FILENO, ground::number(status) as u64);
-    io::write_all(STDOUT_FILENO, b" ");
+    let number = ground::number(status);
+    print!(rt; "{asked}{number} ")?;
     let part = salt::salt(set, signature);
-    io::write_all(STDOUT_FILENO, part);
-    io::write_all(STDOUT_FILENO, b"\n");
+    io::writer(rt).write_all(part)?;
+    println!(rt)
 }
 
-fn main() {
+fn main(rt: HostRuntime) -> io::Result<()> {
     show(
-        b"20 bytes: ",
+        &rt,
+        "20 bytes: ",
         Set { v: 1, o: 1, l: 2 },
         b"1234abcdefghijklmnop",
-    );
+    )?;
     show(
-        b"19 bytes: ",
+        &rt,
+        "19 bytes: ",
         Set { v: 1, o: 1, l: 2 },
         b"1234abcdefghijklmno",
-    );
+    )?;
     show(
-        b"l = 5: ",
+        &rt,
+        "l = 5: ",
         Set { v: 1, o: 1, l: 5 },
         b"1234abcdefghijklmnop",
-    );
+    )
 }

@@ -1,18 +1,17 @@
 -- What the maps read, and what stands in the key: entries inside l are made of entries inside l only, and entries of the key and of the streams are elements.
--- So a caller that computes entries inside l computes the map. Rests on Parts and on matrix's Same.
+-- So a caller that computes entries inside l computes the map. The same of the private change stands in proofs/Entries. Rests on Parts and on matrix's Same.
 use Rattle.std.specs.Prelude.{◌≡◌, List, ℕ, zero, suc, ◌+◌, ◌*◌, ◌/◌, ◌%◌, ◌<◌}
 use Rattle.std.proofs.Common.{sym, ap, subst, ◌∙◌, not-suc-le-zero, mul-zero, mod-lt, div-add-mod', div-lt_iff_lt-mul, arith}
-use Rattle.std.proofs.Math.Decide.{dec_lt}
 use Rattle.algebra.specs.Map.{value}
 use Rattle.field.specs.Laws.{add-lt}
-use Rattle.packing.specs.Laws.{element-lt}
+use Rattle.packing.proofs.Laws.{element-lt}
 use Rattle.sets.specs.declared.Set.{Set}
 use Rattle.sets.specs.Sets.{terms, variables}
 use Rattle.matrix.specs.Matrix.{Matrix, zero_m, add_m, mul_m, transpose}
-use Rattle.matrix.specs.Same.{Same, same_refl, same-trans, same-equal, same_add, same-mul, same-transpose, same_sum, mul_m-lt, sum_m-lt}
+use Rattle.matrix.specs.Same.{Same, same_refl, same-trans, same-equal, same-mul, same-transpose, same_sum, mul_m-lt, sum_m-lt}
 use Rattle.scheme.specs.Streams.{block_of}
-use Rattle.scheme.specs.Maps.{sum_m, parts, equation, matrix_index, key_p22, public_map_with, central_map, private_change}
-use Rattle.scheme.specs.Parts.{four-parts, vinegar-or-oil, by_parts, change-vinegar, change-oil, change-past}
+use Rattle.scheme.specs.Maps.{sum_m, parts, equation, matrix_index, key_p22, public_map_with, central_map}
+use Rattle.scheme.specs.Parts.{four-parts, by_parts}
 
 -- ---- which entry an element is
 
@@ -79,17 +78,6 @@ module _ (set : Set) (public abq : List ℕ) where
   central_map-same private eX i =
       value_same (terms set) (variables set) (λ α h. same_refl) (λ α h. same_refl) (λ α j k h hj hk. same_refl) (λ α h. same_refl) (λ α h. same_refl) eX
 
--- and so does the private change
-pub private_change-same : (set : Set) (private : List ℕ) {U U' : ℕ → Matrix} → ((j : ℕ) → j < variables set → Same set.l (U j) (U' j))
-    → (j : ℕ) → j < variables set → Same set.l (private_change set private U j) (private_change set private U' j)
-private_change-same set private {U} {U'} e =
-    vinegar-or-oil set.v set.o (λ j. Same set.l (private_change set private U j) (private_change set private U' j))
-    (λ j h.
-    same-trans (same-equal (change-vinegar set private U j h))
-    (same-trans (same_add (e j (omega arith)) (same_sum set.o (λ k l. same-mul same_refl (e (set.v + k) (omega arith)))))
-    (same-equal (sym (change-vinegar set private U' j h)))))
-    (λ k h. same-trans (same-equal (change-oil set private U k)) (same-trans (e (set.v + k) (omega arith)) (same-equal (sym (change-oil set private U' k)))))
-
 -- ---- entries are elements
 
 -- entries of a stream's block
@@ -97,23 +85,15 @@ pub block_of-lt : (l : ℕ) (s : List ℕ) (b r c : ℕ) → block_of l s b r c 
 unfolding block_of
 block_of-lt l s b r c = element-lt s _
 
-add_m-lt : (M N : Matrix) (r c : ℕ) → M r c < 16 → N r c < 16 → add_m M N r c < 16
+pub add_m-lt : (M N : Matrix) (r c : ℕ) → M r c < 16 → N r c < 16 → add_m M N r c < 16
 unfolding add_m
 add_m-lt M N r c hM hN = add-lt (M r c) (N r c) hM hN
 
 -- a sum of products, whatever the factors are
-products_lt : (n l : ℕ) (M N : ℕ → Matrix) (r c : ℕ) → sum_m n (λ a. mul_m l (M a) (N a)) r c < 16
+pub products_lt : (n l : ℕ) (M N : ℕ → Matrix) (r c : ℕ) → sum_m n (λ a. mul_m l (M a) (N a)) r c < 16
 products_lt n l M N r c = sum_m-lt n _ r c (λ k h. mul_m-lt l _ _ r c)
 
 module _ (set : Set) where
   pub key_p22-lt : (public private : List ℕ) (i j k r c : ℕ) → key_p22 set public private i j k r c < 16
   unfolding key_p22
   key_p22-lt public private i j k r c = add_m-lt _ _ r c (products_lt set.v set.l _ _ r c) (products_lt set.v set.l _ _ r c)
-
-  -- the private change keeps elements
-  pub private_change-lt : (private : List ℕ) (U : ℕ → Matrix) (j r c : ℕ) → U j r c < 16 → private_change set private U j r c < 16
-  private_change-lt private U j r c h =
-      elim (dec_lt j set.v) [
-        | yes l ↦ rw (change-vinegar set private U j l) (add_m-lt _ _ r c h (products_lt set.o set.l _ _ r c))
-        | no l ↦ rw (change-past set private U j (omega arith)) h
-      ]

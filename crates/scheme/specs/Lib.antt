@@ -1,7 +1,6 @@
 pub mod Streams
 pub mod Maps
 pub mod Parts
-pub mod Composition
 pub mod Entries
 pub mod Key
 pub mod Refusals
@@ -12,4 +11,3 @@ pub mod Regroup
 pub mod Coefficients
 pub mod Errors
 pub mod Single
-pub mod OwnMatrix

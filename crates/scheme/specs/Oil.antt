@@ -1,24 +1,23 @@
 -- Oil choices, the oil that solves, and the exact redo (page 01, "Keys, signing, verdict"), entry by entry: i, k < o and r, c < l.
 -- "If only all-zero oil is sent to zero, the one oil choice that makes the central map equal the target is found. Otherwise redo."
 -- An oil choice is also a row of o·l² unknowns: unknown e = k·l² + (a·l + b) is entry (a, b) of oil matrix k.
+-- That there is at most one such choice, and what a redo says, stands in proofs/Oil.
 -- Rests on Linear: the central map is the vinegar part plus the linear part, and the linear part is additive.
 use Rattle.std.specs.Prelude.{◌≡◌, ◌↔◌, List, ℕ, ◌+◌, ◌-◌, ◌*◌, ◌/◌, ◌%◌, ◌<◌, ltb}
 use Rattle.std.proofs.Common.{sym, ◌∙◌, mul-le-mul, mod-lt, div-lt_iff_lt-mul, div-add-mod', arith, lt-ltb, le-ltb}
-use Rattle.std.proofs.Math.Path.{ap, ap₂, fun_ext}
+use Rattle.std.proofs.Math.Path.{ap, fun_ext}
 use Rattle.std.proofs.Math.Nat.{add-sub_cancel_left, mod-mod_of_dvd, dvd-mul_left}
 use Rattle.std.proofs.Math.Arith.{digits_lt, digits_div, digits_mod}
 use Rattle.ground.specs.Pick.{pick}
-use Rattle.algebra.specs.Ring.{add-cancel, add-move-left, add-self-left}
+use Rattle.algebra.specs.Ring.{add-move-left, add-self-left}
 use Rattle.field.specs.Field.{add}
-use Rattle.field.specs.Laws.{add-lt, add-self, add-zero}
 use Rattle.field.specs.FieldRing.{field-ring}
 use Rattle.packing.specs.Packing.{element}
 use Rattle.sets.specs.declared.Set.{Set}
 use Rattle.matrix.specs.Matrix.{Matrix, add_m}
-use Rattle.matrix.specs.Same.{Same}
 use Rattle.scheme.specs.Streams.{block_of, target_of}
 use Rattle.scheme.specs.Maps.{central_map, vinegar_part, linear_part}
-use Rattle.scheme.specs.Linear.{central_map-split, linear_part-add}
+use Rattle.scheme.specs.Linear.{central_map-split}
 
 -- X: the first v matrices are the vinegar, the others the oil
 unfoldable pub joined : Set → (vinegar oil : ℕ → Matrix) → ℕ → Matrix
@@ -148,16 +147,7 @@ module _ {set : Set} (p : 0 < set.l) where
   pub zero-from : (s : ℕ → ℕ) → AllZero set (oil_from set.l s) → (e : ℕ) → e < set.o * (set.l * set.l) → s e ≡ 0
   zero-from s z e h = sym (entry-oil_from set.l s e) ∙ zero-unknowns.0 z e h
 
--- ---- sums of oil choices
-
-oil-add : {set : Set} {oil oil' : ℕ → Matrix} → Oil set oil → Oil set oil' → Oil set (λ k. add_m (oil k) (oil' k))
-unfolding add_m
-oil-add a b = record { element = λ k r c hk hr hc. add-lt _ _ (a.element k r c hk hr hc) (b.element k r c hk hr hc) }
-
--- two choices whose sum is all zero agree
-zero-sum-same : {set : Set} (oil oil' : ℕ → Matrix) → AllZero set (λ k. add_m (oil k) (oil' k)) → (k : ℕ) → k < set.o → Same set.l (oil k) (oil' k)
-unfolding add_m
-zero-sum-same oil oil' z k hk = record { at = λ r c hr hc. add-cancel field-ring (z.zero k r c hk hr hc) }
+-- ---- solutions
 
 module _ {set : Set} {public abq private : List ℕ} {vinegar : ℕ → Matrix} where
   module _ {target : List ℕ} where
@@ -173,42 +163,6 @@ module _ {set : Set} {public abq private : List ℕ} {vinegar : ℕ → Matrix} 
             → central_map set public abq private (joined set vinegar oil) i r c
             ≡ add (vinegar_part set public abq vinegar i r c) (linear_part set public abq private vinegar oil i r c)
         parted i r c = ap (λ M. M r c) (central_map-split set public abq private (joined-vinegar set vinegar oil) (λ k h. joined-oil set vinegar oil k) i)
-
-    -- the sum of two solutions is sent to zero
-    solutions-sum : {oil oil' : ℕ → Matrix} → Solves set public abq private vinegar target oil → Solves set public abq private vinegar target oil'
-        → SentToZero set public abq private vinegar (λ k. add_m (oil k) (oil' k))
-    unfolding add_m
-    solutions-sum {oil} {oil'} s t = record {
-      zero = λ i r c hi hr hc.
-          ap (λ M. M r c) (linear_part-add set public abq private vinegar oil oil' i)
-          ∙ ap₂ add ((solves-linear.0 s).equal i r c hi hr hc) ((solves-linear.0 t).equal i r c hi hr hc) ∙ add-self _;
-    }
-
-    -- a solution plus what is sent to zero is a solution
-    solution-shift : {oil oil' : ℕ → Matrix} → Solves set public abq private vinegar target oil → SentToZero set public abq private vinegar oil'
-        → Solves set public abq private vinegar target (λ k. add_m (oil k) (oil' k))
-    unfolding add_m
-    solution-shift {oil} {oil'} s z = solves-linear.1 (record {
-      equal = λ i r c hi hr hc.
-          ap (λ M. M r c) (linear_part-add set public abq private vinegar oil oil' i)
-          ∙ ap₂ add ((solves-linear.0 s).equal i r c hi hr hc) (z.zero i r c hi hr hc) ∙ add-zero _;
-    })
-
-    -- if only all-zero oil is sent to zero, there is at most one oil choice that makes the central map equal the target
-    pub unique-oil : {oil oil' : ℕ → Matrix} → OnlyZero set public abq private vinegar → Oil set oil → Oil set oil'
-        → Solves set public abq private vinegar target oil → Solves set public abq private vinegar target oil'
-        → (k : ℕ) → k < set.o → Same set.l (oil k) (oil' k)
-    unique-oil {oil} {oil'} z a b s t = zero-sum-same oil oil' (z.only _ (oil-add a b) (solutions-sum s t))
-
-    -- where some other oil is sent to zero, no solution is the only one
-    pub redo-second : {oil : ℕ → Matrix} → Redo set public abq private vinegar → Oil set oil → Solves set public abq private vinegar target oil
-        → ((oil' : ℕ → Matrix) → Oil set oil' → Solves set public abq private vinegar target oil' → (k : ℕ) → k < set.o → Same set.l (oil k) (oil' k))
-        → ⊥
-    unfolding add_m
-    redo-second {oil} d a s one = d.nonzero (record {
-      zero = λ k r c hk hr hc.
-          add-move-left field-ring (sym ((one (λ k. add_m (oil k) (d.choice k)) (oil-add a d.oil) (solution-shift s d.sent) k hk).at r c hr hc)) ∙ add-self _;
-    })
 
   -- redo and uniqueness exclude each other
   pub redo-exclusive : Redo set public abq private vinegar → OnlyZero set public abq private vinegar → ⊥

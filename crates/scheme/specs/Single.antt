@@ -12,7 +12,7 @@ use Rattle.field.specs.Field.{mul}
 use Rattle.field.specs.Laws as Field
 use Rattle.field.specs.FieldRing.{field-ring}
 use Rattle.packing.specs.Packing.{element, packed_bytes, packed}
-use Rattle.packing.specs.Laws.{element-packed, length-packed}
+use Rattle.packing.proofs.Laws.{element-packed, length-packed}
 use Rattle.matrix.specs.Matrix.{Matrix, zero_m, mul_m, transpose}
 use Rattle.matrix.specs.MatrixRing.{entries}
 use Rattle.matrix.specs.Same.{Same}

@@ -1,7 +1,7 @@
 -- What an allowed set keeps small: the page's limits as facts, and every product that the code forms, so that no product wraps.
 -- Every bound is said by the limits' names, so a raised limit moves no line here. Rests on Sets and the kit's arithmetic.
-use Rattle.std.specs.Prelude.{◌≡◌, refl, true, false, ℕ, ◌+◌, ◌*◌, ◌≤◌, leb}
-use Rattle.std.proofs.Common.{mul-le-mul, mul-le-mul_left, arith, leb-true, le-leb}
+use Rattle.std.specs.Prelude.{◌≡◌, true, false, ℕ, ◌+◌, ◌*◌, ◌≤◌, leb}
+use Rattle.std.proofs.Common.{leb-true, le-leb}
 use Rattle.ground.specs.Pick.{both_left, both_right, both_true}
 use Rattle.sets.specs.declared.Set.{Set}
 use Rattle.sets.specs.Sets.{
@@ -96,43 +96,6 @@ pub record Products (s : Set) : Type 0 where
   pub ollll : s.o * (s.l * s.l) * (s.l * s.l) ≤ most_row * (most_l * most_l)
   pub oollll : s.o * (s.l * s.l) * (s.o * (s.l * s.l)) ≤ most_row * most_row
 
-products : {s : Set} → Limits s → Products s
-products {s} h =
-    let ll = mul-le-mul h.l-most h.l-most in
-    let vv = mul-le-mul h.v-most h.v-most in
-    let vo = mul-le-mul h.v-most h.o-most in
-    let oo = mul-le-mul h.o-most h.o-most in
-    let ol : s.o * s.l * least_l ≤ most_row = omega (arith, mul-le-mul_left (s.o * s.l) h.l-least) in
-    record {
-      ll = ll;
-      vl = mul-le-mul h.v-most h.l-most;
-      vll = mul-le-mul h.v-most ll;
-      ol = ol;
-      vv = vv;
-      vvl = mul-le-mul vv h.l-most;
-      vvll = mul-le-mul vv ll;
-      vo = vo;
-      vol = mul-le-mul h.v-most ol;
-      voll = mul-le-mul h.v-most h.row;
-      oo = oo;
-      ool = mul-le-mul h.o-most ol;
-      ooll = mul-le-mul h.o-most h.row;
-      vvo = mul-le-mul vv h.o-most;
-      vvol = mul-le-mul vv ol;
-      vvoll = mul-le-mul vv h.row;
-      voo = mul-le-mul vo h.o-most;
-      vool = mul-le-mul vo ol;
-      vooll = mul-le-mul vo h.row;
-      ooo = mul-le-mul oo h.o-most;
-      oool = mul-le-mul oo ol;
-      oooll = mul-le-mul oo h.row;
-      lll = mul-le-mul h.l-most ll;
-      llll = mul-le-mul ll ll;
-      olll = mul-le-mul h.row h.l-most;
-      ollll = mul-le-mul h.row ll;
-      oollll = mul-le-mul h.row h.row;
-    }
-
 -- each definition written out, so that `omega` reads it as a sum of products
 pub record Counts (s : Set) : Type 0 where
   pub terms : terms s ≡ s.l * s.l + s.l
@@ -144,21 +107,6 @@ pub record Counts (s : Set) : Type 0 where
   pub target : target_count s ≡ s.o * (s.l * s.l)
   pub key : key_count s ≡ s.o * s.o * s.o * (s.l * s.l)
   pub signature : signature_count s ≡ variables s * (s.l * s.l)
-
-counts : (s : Set) → Counts s
-unfolding terms unknowns public_count abq_count private_count vinegar_count target_count key_count signature_count
-counts s =
-    record {
-      terms = refl;
-      unknowns = refl;
-      public = refl;
-      abq = refl;
-      private = refl;
-      vinegar = refl;
-      target = refl;
-      key = refl;
-      signature = refl;
-    }
 
 -- how large the counts and the work area can be
 pub record Sizes (s : Set) : Type 0 where
@@ -175,38 +123,12 @@ pub record Sizes (s : Set) : Type 0 where
   pub signature : signature_count s ≤ most_v * (most_l * most_l) + most_row
   pub work : work_bytes s ≤ most_row * (most_row + 1) + 3 * (most_v * most_row)
 
-sizes : {s : Set} → Limits s → Products s → Sizes s
-unfolding work_bytes unknowns all_terms terms
-sizes {s} h p =
-    let c = counts s in
-    let all : all_terms s ≤ 2 * most_row = omega arith in
-    record {
-      terms = omega arith;
-      all-terms = all;
-      all-terms-l = omega (arith, mul-le-mul all h.l-most);
-      unknowns = omega arith;
-      public = omega arith;
-      abq = omega arith;
-      private = omega arith;
-      vinegar = omega arith;
-      target = omega arith;
-      key = omega arith;
-      signature = omega arith;
-      work = omega arith;
-    }
-
 -- all of it: what a function asks of a set that is allowed
 pub record Bounds (s : Set) : Type 0 where
   pub limits : Limits s
   pub products : Products s
   pub counts : Counts s
   pub sizes : Sizes s
-
-bounds-from : {s : Set} → Limits s → Bounds s
-bounds-from {s} h = let p = products h in record { limits = h; products = p; counts = counts s; sizes = sizes h p }
-
-pub bounds : (s : Set) → allowed_set s ≡ true → Bounds s
-bounds s e = bounds-from (limits s e)
 
 -- the tests one after the other: the first that fails decides, and after the three the row's does
 module _ (s : Set) where

@@ -11,8 +11,8 @@ use Rattle.std.proofs.lemmas.List.{length-replicate}
 use Rattle.std.proofs.Math.ListN.{get_or-append, get_or-eq_default}
 use Rattle.keccak.specs.Bits.{bit}
 use Rattle.keccak.specs.Words.{Words, words-set, words-keccak_f, length-keccak_f}
-use Rattle.shake.specs.Sponge.{lane_byte, byte_at, add_byte, add_bytes, padded, absorbed, sponge, permuted}
-use Rattle.shake.specs.Padding.{padding, padding-one, padding-more, ending-bytes}
+use Rattle.shake.specs.Sponge.{lane_byte, byte_at, add_byte, add_bytes, absorbed, sponge, permuted}
+use Rattle.shake.specs.Padding.{padding, padding-one, padding-more}
 
 -- every number of the list is a byte
 pub record Bytes (bs : List ℕ) : Type 0 where
@@ -127,7 +127,7 @@ words-added {s} w p b h =
     let small : b * 2 ^ (8 * (p % 8)) < 2 ^ (8 + 8 * (p % 8)) = shl_lt 8 (8 * (p % 8)) h in
     words-set w (p / 8) _ (xor_lt 64 _ _ (w.word (p / 8)) (lt_of_lt_of_le small (pow_mono {j = 64} (omega arith))))
 
-words-block : {s : List ℕ} (bs : List ℕ) → Words s → (p : ℕ) → Bytes bs → Words (add_bytes s p bs)
+words-block : (bs : List ℕ) {s : List ℕ} → Words s → (p : ℕ) → Bytes bs → Words (add_bytes s p bs)
 unfolding add_bytes
 words-block [] w p g = w
 words-block (b ∷ bs) w p g = words-block bs (words-added w p b (g.byte 0)) (p + 1) (bytes_rest g)
@@ -145,7 +145,7 @@ bytes_take {bs} g n =
 bytes_drop : {bs : List ℕ} → Bytes bs → (n : ℕ) → Bytes (drop n bs)
 bytes_drop {bs} g n = record { byte = λ k. rw (get_or-drop n bs k 0) (g.byte (n + k)) }
 
-bytes-append : {a b : List ℕ} → Bytes a → Bytes b → Bytes (a ++ b)
+pub bytes-append : {a b : List ℕ} → Bytes a → Bytes b → Bytes (a ++ b)
 bytes-append {a} {b} g h =
     record {
       byte = λ k.
@@ -172,14 +172,14 @@ bytes-zeros : (n : ℕ) → Bytes (replicate n 0)
 bytes-zeros zero = bytes-none
 bytes-zeros (suc n) = bytes-more (lit< tt) (bytes-zeros n)
 
-bytes-padding : (n : ℕ) → Bytes (padding n)
+pub bytes-padding : (n : ℕ) → Bytes (padding n)
 bytes-padding n =
     elim (ℕ_discrete n 1) [
       | yes e ↦ rw (padding-one n e) (bytes-more (lit< tt) bytes-none)
       | no e ↦ rw (padding-more n e) (bytes-more (lit< tt) (bytes-append (bytes-zeros (n - 2)) (bytes-more (lit< tt) bytes-none)))
     ]
 
-words-zeros : (n : ℕ) → Words (replicate n 0)
+pub words-zeros : (n : ℕ) → Words (replicate n 0)
 words-zeros n = record { word = at n }
   where
     at : (n k : ℕ) → get_or (replicate n 0) k 0 < 2 ^ 64
@@ -187,18 +187,12 @@ words-zeros n = record { word = at n }
     at (suc n) zero = lit< tt
     at (suc n) (suc k) = at n k
 
-words-absorbed : (rate : ℕ) {s : List ℕ} → Words s → (n : ℕ) {p : List ℕ} → Bytes p → Words (absorbed rate s n p)
+pub words-absorbed : (rate n : ℕ) {s p : List ℕ} → Words s → Bytes p → Words (absorbed rate s n p)
 unfolding absorbed
-words-absorbed rate w zero g = w
-words-absorbed rate w (suc n) {p} g = words-absorbed rate (words-keccak_f (words-block (take rate p) w 0 (bytes_take g rate))) n (bytes_drop g rate)
+words-absorbed rate zero w g = w
+words-absorbed rate (suc n) {p = p} w g = words-absorbed rate n (words-keccak_f (words-block (take rate p) w 0 (bytes_take g rate))) (bytes_drop g rate)
 
--- the state that has absorbed a message of bytes, and every state that is squeezed
-pub words-sponge : (rate : ℕ) → 0 < rate → {m : List ℕ} → Bytes m → Words (sponge rate m)
-unfolding sponge padded
-words-sponge rate some {m} g =
-    let end : Bytes (m ++ padding (rate - length m % rate)) = bytes-append g (bytes-padding (rate - length m % rate)) in
-    rw (ending-bytes rate (length m) some) (words-absorbed rate (words-zeros 25) _ end)
-
+-- every state that is squeezed; the state that has absorbed a message of bytes is in proofs/Messages
 pub words-permuted : (n : ℕ) {s : List ℕ} → Words s → Words (permuted n s)
 unfolding permuted
 words-permuted zero w = w

@@ -1,17 +1,16 @@
--- Feeding byte by byte is absorbing block by block, and feeding piece by piece is feeding the concatenation.
+-- Feeding byte by byte is absorbing block by block, and feeding piece by piece is feeding the concatenation. What that makes of a whole message is in proofs/Messages.
 -- Rests on Feed and the kit's lists.
 use Rattle.std.specs.Prelude.{◌≡◌, refl, List, [], ◌∷◌, ◌++◌, ℕ, zero, suc, ◌+◌, ◌-◌, ◌*◌, ◌/◌, ◌%◌, ◌^◌, ◌<◌, ◌≤◌, length, get_or, take, drop, replicate}
-use Rattle.std.proofs.Common.{sym, ap, ◌∙◌, mod-eq_of_lt, zero-mul, suc-mul, div-add-mod', mod-lt, add-one, arith, eq-eqb, ne_eqb, length-append, length-drop, take-append-drop, drop_of_length-le, drop-cons, length-take-le}
-use Rattle.std.proofs.Math.Nat.{add-div_left, add-mod_left, div-eq_of_lt, div-eq_of_eq-mul_left}
+use Rattle.std.proofs.Common.{sym, ap, ◌∙◌, mod-eq_of_lt, zero-mul, suc-mul, div-add-mod', mod-lt, add-one, arith, eq-eqb, ne_eqb, length-drop, take-append-drop, drop_of_length-le, drop-cons, length-take-le}
+use Rattle.std.proofs.Math.Nat.{add-div_left, add-mod_left, div-eq_of_lt}
 use Rattle.std.proofs.Math.Decide.{ℕ_discrete}
 use Rattle.std.specs.Int.Bits.{xor_zero_r}
 use Rattle.std.proofs.lemmas.List.{set-get_or}
-use Rattle.ground.specs.Fill.{tab}
 use Rattle.keccak.specs.Keccak.{keccak_f}
 use Rattle.shake.specs.declared.Sponge.{Sponge}
-use Rattle.shake.specs.Padding.{padding, padding-one, padding-more, length-padding, ending-bytes}
-use Rattle.shake.specs.Sponge.{add_byte, add_bytes, padded, absorbed, sponge, lane_byte, byte_at, permuted, squeezed, shake}
-use Rattle.shake.specs.Feed.{fresh, Fresh, turned, fed_byte, fed, Fed, finished, output}
+use Rattle.shake.specs.Padding.{padding, padding-one, padding-more, length-padding}
+use Rattle.shake.specs.Sponge.{add_byte, add_bytes, absorbed, lane_byte, byte_at, permuted, squeezed}
+use Rattle.shake.specs.Feed.{fresh, Fresh, turned, fed_byte, fed, Fed, finished}
 
 -- a sponge from its parts
 abbrev pub at : List ℕ → ℕ → Sponge
@@ -96,7 +95,7 @@ unfolding finished
 finished-more rate s p e = rw (ne_eqb (p + 1) rate e)
 
 -- what the code does at the end is to feed the padding
-fed-padding : (rate : ℕ) (s : List ℕ) (p : ℕ) → p < rate → fed rate (at s p) (padding (rate - p)) ≡ at (finished rate (at s p)) 0
+pub fed-padding : (rate : ℕ) (s : List ℕ) (p : ℕ) → p < rate → fed rate (at s p) (padding (rate - p)) ≡ at (finished rate (at s p)) 0
 unfolding add_bytes
 fed-padding rate s p h =
     let long : length (padding (rate - p)) ≡ rate - p = length-padding (rate - p) (omega arith) in
@@ -113,7 +112,7 @@ fed-padding rate s p h =
 -- ---- a whole message
 
 -- the place of the next byte is what the message has beyond whole blocks
-fed-place : (rate : ℕ) → 0 < rate → (m : List ℕ) → (fed rate fresh m).at ≡ length m % rate
+pub fed-place : (rate : ℕ) → 0 < rate → (m : List ℕ) → (fed rate fresh m).at ≡ length m % rate
 unfolding fresh
 fed-place rate some m =
     let n : ℕ = length m / rate in
@@ -126,25 +125,6 @@ fed-place rate some m =
     ∙ ap (λ t. t.at) (fed-append rate (at (replicate 25 0) 0) (take (n * rate) m) (drop (n * rate) m)
     ∙ ap (λ t. fed rate t (drop (n * rate) m)) (fed-blocks rate some (replicate 25 0) n (take (n * rate) m) whole)
     ∙ fed-within rate s 0 (drop (n * rate) m) (omega arith)) ∙ omega arith
-
--- a message that is fed byte by byte, and finished, is absorbed
-pub finished-sponge : (rate : ℕ) → 0 < rate → (m : List ℕ) → finished rate (fed rate fresh m) ≡ sponge rate m
-unfolding sponge padded fresh
-finished-sponge rate some m =
-    let n : ℕ = length m / rate in
-    let t : Sponge = fed rate fresh m in
-    let place : t.at ≡ length m % rate = fed-place rate some m in
-    let all : n * rate + length m % rate ≡ length m = div-add-mod' (length m) rate in
-    let less : length m % rate < rate = mod-lt (length m) some in
-    let pad : List ℕ = padding (rate - length m % rate) in
-    let pad-long : length pad ≡ rate - length m % rate = length-padding (rate - length m % rate) (omega arith) in
-    let long : length (m ++ pad) ≡ suc n * rate = length-append m pad ∙ omega (arith, suc-mul n rate) in
-    let blocks : length (m ++ pad) / rate ≡ suc n = div-eq_of_eq-mul_left some long in
-    let both : at (finished rate t) 0 ≡ at (absorbed rate (replicate 25 0) (suc n) (m ++ pad)) 0 =
-    sym (fed-padding rate t.lanes t.at (omega arith)) ∙ ap (λ p. fed rate t (padding (rate - p))) place ∙ sym (fed-append rate fresh m pad)
-    ∙ fed-blocks rate some (replicate 25 0) (suc n) (m ++ pad) long in
-    ap (λ s. s.lanes) both ∙ ap (λ k. absorbed rate (replicate 25 0) k (m ++ pad)) (sym blocks)
-    ∙ ap (λ e. absorbed rate (replicate 25 0) (length (m ++ e) / rate) (m ++ e)) (sym (ending-bytes rate (length m) some))
 
 -- ---- squeezing
 
@@ -165,12 +145,6 @@ squeezed-lane rate whole s p aligned h d l =
     let byte : (p + d) % 8 ≡ d = omega arith in
     rw (div-eq_of_lt below, mod-eq_of_lt below, lane, byte)
 
--- ---- what is squeezed from a finished sponge
-
-pub output-shake : (rate : ℕ) → 0 < rate → (m : List ℕ) (n : ℕ) → output rate (fed rate fresh m) n ≡ shake rate m n
-unfolding output shake
-output-shake rate some m n = ap (λ s. tab n (squeezed rate s)) (finished-sponge rate some m)
-
 -- ---- for callers: a sponge that has taken a message, piece by piece
 
 -- s has taken the message m
@@ -182,6 +156,3 @@ holds-first {rate} {m = m} e f = record { sponge = f.sponge ∙ ap (λ x. fed ra
 
 pub holds_more : {rate : ℕ} {s t : Sponge} {m b : List ℕ} → Holds rate m s → Fed rate s b t → Holds rate (m ++ b) t
 holds_more {rate} {m = m} {b} h f = record { sponge = f.sponge ∙ ap (λ x. fed rate x b) h.sponge ∙ sym (fed-append rate fresh m b) }
-
-pub holds-out : {rate : ℕ} {s : Sponge} {m : List ℕ} → 0 < rate → Holds rate m s → (n : ℕ) {t : List ℕ} → t ≡ output rate s n → t ≡ shake rate m n
-holds-out {rate} {m = m} some h n o = o ∙ ap (λ x. output rate x n) h.sponge ∙ output-shake rate some m n

@@ -1,7 +1,7 @@
--- Strings of bits: what is absorbed is, bit for bit, the message, 1111 and pad10*1, in whole blocks.
--- Rests on Padding and on keccak's Bits.
+-- Strings of bits, and the bytes that hold them. That what is absorbed is, bit for bit, the message, 1111 and pad10*1, in whole blocks, is in proofs/Messages.
+-- Rests on Sponge and on keccak's Bits.
 use Rattle.std.specs.Prelude.{◌≡◌, List, ◌++◌, length}
-use Rattle.std.proofs.Common.{sym, ap₂, ◌∙◌, mod-lt, div-add-mod', length-append, shr-shr, ext_get_or, get_or-append-add}
+use Rattle.std.proofs.Common.{sym, ap₂, ◌∙◌, length-append, shr-shr, ext_get_or, get_or-append-add}
 use Rattle.std.proofs.Math.Path.{ap}
 use Prim.Native.Nat.{ℕ, zero, suc, ◌+◌, ◌-◌, ◌*◌, ◌/◌, ◌%◌, ◌^◌, ◌<◌}
 use Rattle.std.proofs.Math.Decide.{dec_lt}
@@ -9,8 +9,7 @@ use native.Mathlib.Omega.{arith}
 use Rattle.std.proofs.Math.ListN.{get_or, get_or-append}
 use Rattle.ground.specs.Fill.{tab, length-tab, get_or-tab}
 use Rattle.keccak.specs.Bits.{bit}
-use Rattle.shake.specs.Sponge.{byte_from, bytes_of, ending, padded}
-use Rattle.shake.specs.Padding.{length-padding, ending-bytes, length-ending, ending-lt}
+use Rattle.shake.specs.Sponge.{byte_from, bytes_of}
 
 -- section B.1: the bits of some bytes, the lowest of each first
 unfoldable pub bits_of : List ℕ → List ℕ
@@ -108,24 +107,3 @@ bits-bytes s g whole = ext_get_or 0 (bits_of (bytes_of s)) s long at
         let place : 8 * (k / 8) + k % 8 ≡ k = omega arith in
         get_or-bits_of (bytes_of s) k (omega (arith, length-bits_of (bytes_of s))) ∙ ap (λ x. bit x (k % 8)) (byte-of s (k / 8) (omega (arith, long)))
         ∙ byte-bit s g (8 * (k / 8)) (k % 8) (omega arith) ∙ ap (λ i. get_or s i 0) place
-
--- ---- what is absorbed
-
-ending-bits : (rate n : ℕ) → Bits (ending rate n)
-ending-bits rate n = record { bit = ending-lt rate n }
-
--- step 1: P = N ‖ pad(r, len(N)), where N is the message and 1111
-pub padded-bits : (rate : ℕ) → 0 < rate → (m : List ℕ) → bits_of (padded rate m) ≡ bits_of m ++ ending rate (length m)
-unfolding padded
-padded-bits rate some m =
-    bits-append m (bytes_of (ending rate (length m)))
-    ∙ ap (λ e. bits_of m ++ e) (bits-bytes (ending rate (length m)) (ending-bits rate (length m)) (omega (arith, length-ending rate (length m) some)))
-
--- step 2: whole blocks
-pub length-padded : (rate : ℕ) → 0 < rate → (m : List ℕ) → length (padded rate m) ≡ (length m / rate + 1) * rate
-unfolding padded
-length-padded rate some m =
-    let less : length m % rate < rate = mod-lt (length m) some in
-    let all : length m / rate * rate + length m % rate ≡ length m = div-add-mod' (length m) rate in
-    let pad : length (bytes_of (ending rate (length m))) ≡ rate - length m % rate = ap length (ending-bytes rate (length m) some) ∙ length-padding (rate - length m % rate) (omega arith) in
-    length-append m (bytes_of (ending rate (length m))) ∙ omega arith

@@ -9,7 +9,7 @@ ghost use Rattle.shake.specs.Sponge.{lane_byte, add_byte, squeezed, shake as sha
 ghost use Rattle.shake.specs.Feed.{Rate, Fresh, Ready, Fed, finished, output};
 
 // A state, and the place in its block of the message's next byte.
-#[derive(Drop)]
+#[derive(Clone, Copy)]
 pub struct Sponge {
     pub lanes: [u64; 25],
     pub at: usize,

@@ -4,7 +4,7 @@ use Rattle.std.specs.Prelude.{◌≡◌, List, ℕ, ◌+◌, ◌*◌, ◌<◌, �
 use Rattle.std.proofs.Common.{sym, subst, mul-le-mul_right, arith}
 use Rattle.std.proofs.Math.Decide.{dec_lt}
 use Rattle.field.specs.Laws.{add-lt}
-use Rattle.packing.specs.Laws.{element-lt}
+use Rattle.packing.proofs.Laws.{element-lt}
 use Rattle.sets.specs.declared.Set.{Set}
 use Rattle.sets.specs.Sets.{unknowns, work_bytes}
 use Rattle.sets.specs.Bounds.{Bounds}

@@ -8,14 +8,15 @@ use Rattle.std.proofs.Math.ListN.{length}
 use Rattle.std.proofs.Math.Seq.{take-append_seam}
 use Rattle.ground.specs.Fill.{tab, length-tab, get_or-tab, tab-cong}
 use Rattle.packing.specs.Packing.{element, packed, packed_bytes, in_field}
-use Rattle.packing.specs.Laws.{element-take, element-packed, length-packed, in-field-tab}
+use Rattle.packing.proofs.Laws.{element-take, element-packed, length-packed, in-field-tab}
 use Rattle.sets.specs.declared.Set.{Set}
 use Rattle.sets.specs.Sets.{variables, signature_count}
 use Rattle.matrix.specs.Matrix.{Matrix}
 use Rattle.matrix.specs.Same.{Same, same-equal, same-trans}
 use Rattle.scheme.specs.Streams.{block_of, vinegar_of, signature_of}
 use Rattle.scheme.specs.Parts.{vinegar-or-oil}
-use Rattle.scheme.specs.Entries.{by-entry, block_of-lt, private_change-lt, private_change-same}
+use Rattle.scheme.specs.Entries.{by-entry, block_of-lt}
+use Rattle.scheme.proofs.Entries.{private_change-lt, private_change-same}
 use Rattle.scheme.specs.Oil.{entry_at, entry-number, joined, joined-vinegar, joined-oil, Oil}
 use Rattle.signing.specs.Signs.{solution_of, signature_with}
 

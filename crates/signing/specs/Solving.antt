@@ -12,7 +12,8 @@ use Rattle.sets.specs.Sets.{unknowns}
 use Rattle.scheme.specs.Streams.{vinegar_of}
 use Rattle.scheme.specs.Maps.{vinegar_part}
 use Rattle.scheme.specs.Oil.{entry_at, oil_from, oil-from, Oil, Solves, OnlyZero}
-use Rattle.scheme.specs.Coefficients.{coefficient_at, row_times, only_zero-rows, redo-rows, solution-rows}
+use Rattle.scheme.specs.Coefficients.{coefficient_at, row_times}
+use Rattle.scheme.proofs.Coefficients.{only_zero-rows, redo-rows, solution-rows}
 use Rattle.linear.specs.System.{at, apply, Solution, Kernel, Eliminated}
 use Rattle.linear.specs.declared.Outcome.{Outcome}
 use Rattle.linear.specs.declared.Outcome.TheVariants.{Solved, Singular}

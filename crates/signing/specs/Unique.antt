@@ -7,8 +7,10 @@ use Rattle.ground.specs.Answers.{first}
 use Rattle.sets.specs.declared.Set.{Set}
 use Rattle.scheme.specs.Streams.{vinegar_of}
 use Rattle.scheme.specs.Maps.{central_map, key_of}
-use Rattle.scheme.specs.Oil.{joined, OnlyZero, redo-exclusive, unique-oil}
-use Rattle.scheme.specs.Verdict.{accepted, accepted-change, entries-meet}
+use Rattle.scheme.specs.Oil.{joined, OnlyZero, redo-exclusive}
+use Rattle.scheme.proofs.Oil.{unique-oil}
+use Rattle.scheme.specs.Verdict.{accepted, entries-meet}
+use Rattle.scheme.proofs.Verdict.{accepted-change}
 use Rattle.signing.specs.declared.Signing.{Signing}
 use Rattle.signing.specs.declared.Signing.TheVariants.{Done, Redo}
 use Rattle.ground.specs.Outcome.{unique-equation}

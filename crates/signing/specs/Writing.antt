@@ -2,22 +2,22 @@
 -- Rests on rows' Plus, tables' Holds and packing's Written.
 use Rattle.std.specs.Prelude.{◌≡◌, length}
 use Rattle.std.proofs.Math.Path.{sym, ap, ap₂}
-use Rattle.std.proofs.Common.{subst, ◌∙◌, zero-add as zero-plus, length-append, get_or-append-add}
+use Rattle.std.proofs.Common.{◌∙◌, zero-add as zero-plus, length-append, get_or-append-add}
 use mathlib.Core.List.{List, ◌++◌}
 use Prim.Native.Nat.{ℕ, ◌+◌, ◌-◌, ◌*◌, ◌<◌, ◌≤◌}
 use Rattle.std.proofs.Math.Decide.{dec_lt}
 use native.Mathlib.Omega.{arith}
 use Rattle.std.proofs.Math.Arith.{digits_lt}
-use Rattle.std.proofs.Math.ListN.{get_or, set, get_or-append, get_or-eq_default}
+use Rattle.std.proofs.Math.ListN.{get_or, get_or-append, get_or-eq_default}
 use Rattle.std.proofs.Math.Seq.{ext_get_or}
 use Rattle.ground.specs.Fill.{tab, length-tab, get_or-tab}
-use Rattle.ground.specs.Segment.{Segment, segment-next}
+use Rattle.ground.specs.Segment.{Segment}
 use Rattle.algebra.specs.Sum.{sum-cong}
 use Rattle.field.specs.Field.{add, mul}
 use Rattle.field.specs.Laws.{zero-add, one-mul}
 use Rattle.field.specs.FieldRing.{field-ring}
 use Rattle.packing.specs.Packing.{element, packed, packed_bytes, byte_of, Bytes}
-use Rattle.packing.specs.Laws.{byte-elements, get_or-packed, length-packed}
+use Rattle.packing.proofs.Laws.{byte-elements, get_or-packed, length-packed}
 use Rattle.packing.specs.Written.{Written}
 use Rattle.sets.specs.declared.Set.{Set}
 use Rattle.sets.specs.Sets.{variables, unknowns, vinegar_count, signature_count}

@@ -2,23 +2,22 @@
 // The streams are filled by a rule, so that anyone can make them again. Outputs start as EE: a redo shows that the signature was left alone.
 #![tactic(auto)]
 
-use libc::STDOUT_FILENO;
 use sets::Set;
+use std::io;
 
-fn main() {
-    text(
-        b"| set | streams | signing | verdict | work area | signature |\n|---|---|---|---|---|---|\n",
-    );
-    small(1, true);
-    small(2, true);
-    small(1, false);
-    larger(1, true);
-    larger(2, true);
-    larger(1, false);
+fn main(rt: HostRuntime) -> io::Result<()> {
+    println!(rt; "| set | streams | signing | verdict | work area | signature |")?;
+    println!(rt; "|---|---|---|---|---|---|")?;
+    small(&rt, 1, true)?;
+    small(&rt, 2, true)?;
+    small(&rt, 1, false)?;
+    larger(&rt, 1, true)?;
+    larger(&rt, 2, true)?;
+    larger(&rt, 1, false)
 }
 
 // A signature for (1,1,2) from the streams of a seed; without vinegar, that is with a vinegar stream of zeros, it is a redo.
-fn small(seed: u32, vinegar_too: bool) {
+fn small(rt: &impl Print, seed: u32, vinegar_too: bool) -> io::Result<()> {
     let mut public = [0u8; 6];
     let mut abq = [0u8; 36];
     let mut private = [0u8; 1];
@@ -34,8 +33,9 @@ fn small(seed: u32, vinegar_too: bool) {
     fill_vinegar(&mut vinegar, seed, vinegar_too);
     fill(&mut target, seed, 5);
     fill(&mut salt, seed, 6);
-    text(b"| (1,1,2)");
+    print!(rt; "| (1,1,2)")?;
     row(
+        rt,
         Set { v: 1, o: 1, l: 2 },
         seed,
         vinegar_too,
@@ -48,11 +48,11 @@ fn small(seed: u32, vinegar_too: bool) {
         &mut key,
         &mut work,
         &mut signature,
-    );
+    )
 }
 
 // The same for (2,2,3).
-fn larger(seed: u32, vinegar_too: bool) {
+fn larger(rt: &impl Print, seed: u32, vinegar_too: bool) -> io::Result<()> {
     let mut public = [0u8; 108];
     let mut abq = [0u8; 288];
     let mut private = [0u8; 6];
@@ -68,8 +68,9 @@ fn larger(seed: u32, vinegar_too: bool) {
     fill_vinegar(&mut vinegar, seed, vinegar_too);
     fill(&mut target, seed, 5);
     fill(&mut salt, seed, 6);
-    text(b"| (2,2,3)");
+    print!(rt; "| (2,2,3)")?;
     row(
+        rt,
         Set { v: 2, o: 2, l: 3 },
         seed,
         vinegar_too,
@@ -82,11 +83,12 @@ fn larger(seed: u32, vinegar_too: bool) {
         &mut key,
         &mut work,
         &mut signature,
-    );
+    )
 }
 
 // Makes the key, signs, verifies, and writes one row of the table.
 fn row(
+    rt: &impl Print,
     set: Set,
     seed: u32,
     vinegar_too: bool,
@@ -99,29 +101,25 @@ fn row(
     key: &mut [u8],
     work: &mut [u8],
     signature: &mut [u8],
-) {
+) -> io::Result<()> {
     keys::generate(set, public, private, key);
     let answer = signing::sign(
         set, public, abq, private, vinegar, target, salt, work, signature,
     );
     let verdict = verdict::verify(set, public, abq, target, key, signature);
-    text(b" | ");
-    number(seed);
-    if vinegar_too {
-        text(b" | ");
-    } else {
-        text(b", vinegar of zeros | ");
+    print!(rt; " | {seed}")?;
+    if !vinegar_too {
+        print!(rt; ", vinegar of zeros")?;
     }
-    number(signing::number(answer));
-    text(b" | ");
-    number(verdict::number(verdict));
-    if all_zero(work) {
-        text(b" | zero |");
-    } else {
-        text(b" | not zero |");
+    let signed = signing::number(answer);
+    let verified = verdict::number(verdict);
+    print!(rt; " | {signed} | {verified} | ")?;
+    if !all_zero(work) {
+        print!(rt; "not ")?;
     }
-    bytes(signature);
-    text(b" |\n");
+    print!(rt; "zero |")?;
+    bytes(rt, signature)?;
+    println!(rt; " |")
 }
 
 // The vinegar stream of a seed, or zeros as it was.
@@ -134,54 +132,24 @@ fn fill_vinegar(s: &mut [u8], seed: u32, too: bool) {
 // Fills a stream: x starts at 8 * seed + stream and becomes 75 * x + 74 modulo 65537 for each byte, which is x / 256 modulo 256.
 fn fill(s: &mut [u8], seed: u32, stream: u32) {
     let mut x = seed % 64 * 8 + stream % 8;
-    let mut k = 0;
-    while k < s.len() {
+    for b in s.iter_mut() {
         x = (x % 65537 * 75 + 74) % 65537;
-        s[k] = (x / 256 % 256) as u8;
-        k += 1;
+        *b = (x / 256 % 256) as u8;
     }
 }
 
 fn all_zero(s: &[u8]) -> bool {
-    let mut k = 0;
-    while k < s.len() {
-        if s[k] != 0 {
-            return false;
-        }
-        k += 1;
+    s.iter().all(|b| *b == 0)
+}
+
+fn bytes(rt: &impl Print, s: &[u8]) -> io::Result<()> {
+    for b in s {
+        byte(rt, *b)?;
     }
-    true
+    Ok(())
 }
 
-fn bytes(s: &[u8]) {
-    let mut k = 0;
-    while k < s.len() {
-        byte(s[k]);
-        k += 1;
-    }
-}
-
-// A space and the byte in two digits.
-fn byte(b: u8) {
-    let shown = [b' ', digit(b / 16), digit(b % 16)];
-    io::write_all(STDOUT_FILENO, &shown);
-}
-
-// A digit to the base 16.
-fn digit(x: u8) -> u8 {
-    if x < 10 {
-        x + b'0'
-    } else if x < 16 {
-        x - 10 + b'A'
-    } else {
-        b'?'
-    }
-}
-
-fn number(n: u32) {
-    io::print_decimal(STDOUT_FILENO, n as u64);
-}
-
-fn text(bytes: &[u8]) {
-    io::write_all(STDOUT_FILENO, bytes);
+// A space and the byte in two digits to the base 16.
+fn byte(rt: &impl Print, b: u8) -> io::Result<()> {
+    print!(rt; " {b:02X}")
 }

@@ -1,7 +1,7 @@
 -- What the functions of the C interface promise of exercise books and of salvage, and that no second outcome meets it: the number returned is the page's number of an
 -- answer that meets the promise of the function behind it. Rests on the contracts of book_writer, book_reader and salvage.
-use Rattle.std.specs.Prelude.{◌≡◌, refl, List, ℕ}
-use Rattle.std.proofs.Common.{sym, ap, ap₂, ◌∙◌}
+use Rattle.std.specs.Prelude.{◌≡◌, List, ℕ}
+use Rattle.std.proofs.Common.{sym, ap, ◌∙◌}
 use Rattle.ground.specs.Answers.{answer_of, number_of}
 use Rattle.ground.specs.Outcome.{Writes, unique-writes, unique-equation}
 use Rattle.books.specs.Book.{read_number}

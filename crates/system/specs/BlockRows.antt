@@ -1,7 +1,7 @@
 -- The rows of a block gain those of a table's blocks, times their factors.
 -- Rests on matrix's rows of blocks.
 use Rattle.std.specs.Prelude.{◌≡◌, refl, Bool, true, false, List, ℕ, ◌+◌, ◌*◌, ◌<◌, ◌≤◌, ltb, get_or}
-use Rattle.std.proofs.Common.{sym, ap, subst, le-mul_of_pos_right, arith}
+use Rattle.std.proofs.Common.{sym, ap, le-mul_of_pos_right, arith}
 use Rattle.ground.specs.Pick.{pick}
 use Rattle.ground.specs.Place.{row_fits}
 use Rattle.algebra.specs.Sum.{sum, sum_zeros}

@@ -17,7 +17,7 @@ use streams::Term;
 // Room for o blocks.
 const SIDES: usize = MOST_O * BYTES;
 
-// Room for o·l·l rows of typeof.l.STRIDE bytes.
+// Room for o·l·l rows of l·STRIDE bytes.
 const PRODUCTS: usize = MOST_ROW * (MOST_L * STRIDE);
 
 // The left and the right products of an equation gain those of one term.

@@ -1,4 +1,4 @@
-// What the terms of an equation add to its rows of the system: for each oil index k the blocks A.L.Q2 and Q1.R.B, 25 bytes each; their entries times B and A,
+// What the terms of an equation add to its rows of the system: for each oil index k the blocks A·L·Q2 and Q1·R·B, 25 bytes each; their entries times B and A,
 // added up over the terms; and the rows made of these products.
 ghost use Rattle.std.specs.Prelude.{◌≡◌, ℕ, ◌+◌, ◌*◌, ◌<◌, ◌≤◌, length};
 ghost use Rattle.rows.specs.PlusRows.{PlusRows};

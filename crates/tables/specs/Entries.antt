@@ -6,7 +6,7 @@ use Rattle.std.proofs.Math.Arith.{digits_div, digits_mod}
 use Rattle.algebra.specs.Sum.{sum-cong}
 use Rattle.field.specs.Field.{mul}
 use Rattle.field.specs.FieldRing.{field-ring}
-use Rattle.packing.specs.Laws.{element-lt}
+use Rattle.packing.proofs.Laws.{element-lt}
 use Rattle.matrix.specs.Matrix.{Matrix, mul_m}
 use Rattle.scheme.specs.Streams.{block_of}
 use Rattle.scheme.specs.Maps.{sum_m}

@@ -49,7 +49,7 @@ pub fn add_times(
     }
 }
 
-// dst[at + k·stride] becomes src[from + typeof.k.step], for each k below count.
+// dst[at + k·stride] becomes src[from + k·step], for each k below count.
 fn copy_column(
     dst: &mut [u8],
     at: usize,

@@ -1,8 +1,8 @@
 -- The first place where two rows of values differ, and that the verdict is that there is none.
 -- Rests on scheme's `accepted` and on public_map's values.
-use Rattle.std.specs.Prelude.{◌≡◌, refl, Bool, true, false, ◌⊎◌, List, ℕ, ◌+◌, ◌*◌, ◌<◌, ◌≤◌, eqb}
+use Rattle.std.specs.Prelude.{◌≡◌, refl, Bool, true, false, List, ℕ, ◌+◌, ◌*◌, ◌<◌, ◌≤◌, eqb}
 use Rattle.std.proofs.Math.Path.{sym}
-use Rattle.std.proofs.Common.{ap, ◌∙◌, inl, inr, ⊎_elim, not-suc-le-zero, eq-eqb, ne_eqb, eqb-true}
+use Rattle.std.proofs.Common.{◌∙◌, not-suc-le-zero, eq-eqb, ne_eqb}
 use Rattle.std.proofs.Math.Nat.{mul-le-mul_right}
 use Rattle.std.proofs.Math.Decide.{dec_lt}
 use native.Mathlib.Omega.{arith}
@@ -11,14 +11,13 @@ use Rattle.packing.specs.Packing.{element}
 use Rattle.sets.specs.declared.Set.{Set}
 use Rattle.sets.specs.Sets.{variables, target_count}
 use Rattle.sets.specs.Bounds.{Bounds}
-use Rattle.matrix.specs.Matrix.{Matrix}
-use Rattle.matrix.specs.Same.{Same, same_refl}
-use Rattle.scheme.specs.Streams.{block_of, target_of, signature_of, P22}
-use Rattle.scheme.specs.Maps.{public_map}
+use Rattle.matrix.specs.Same.{same_refl}
+use Rattle.scheme.specs.Streams.{block_of, target_of, signature_of}
 use Rattle.scheme.specs.Entries.{by-entry, public_map_with-same}
-use Rattle.scheme.specs.Verdict.{accepted, accepted-exactly}
+use Rattle.scheme.specs.Verdict.{accepted}
+use Rattle.scheme.proofs.Verdict.{accepted-exactly}
 use Rattle.tables.specs.Unpacked.{Unpacked, list_of, unpacked-list}
-use Rattle.public_map.specs.Values.{Puts, MapValues, puts-same}
+use Rattle.public_map.specs.Values.{MapValues, puts-same}
 
 -- r is the first place below n where x and y differ, or n where they agree at every place below n
 pub record FirstDifference (n : ℕ) (x y : ℕ → ℕ) (r : ℕ) : Type 0 where

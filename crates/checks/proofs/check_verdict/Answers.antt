@@ -3,7 +3,7 @@ use mathlib.Core.Path.{sym, ◌∙◌}
 use mathlib.Core.List.{List, [], ◌∷◌}
 use lib.ListN.{length}
 use Rattle.ground.specs.Answers.{Rule}
-use Rattle.sets.specs.Bounds.{bounds}
+use Rattle.sets.proofs.Bounds.{bounds}
 use Rattle.refusals.specs.Rules.{verdict_rules}
 use Rattle.refusals.specs.Fits.{verdict-fits}
 use Rattle.scheme.specs.Refusals.{invertible_rule, verdict_refusals}

@@ -1,12 +1,8 @@
 -- `field::chosen` meets its contract: the code mirrors the definition; a byte times a digit below 2 is a byte.
 use mathlib.Core.Path.{ap}
-use Prim.Native.Nat.{ℕ, ◌*◌, ◌/◌, ◌%◌, ◌<◌}
-use native.Mathlib.Nat.{mul-le-mul, le_refl}
-use mir.Syntax.{w8}
-use mir.Val.{Fits}
+use Prim.Native.Nat.{◌*◌, ◌/◌, ◌%◌}
 use lib.Bits.{bit_xor}
 use Rattle.field.specs.Field.{chosen_of}
-use native.Mathlib.Omega.{arith}
 use Rattle.field.proofs.chosen.Goals as goal
 
 pub returns : goal.returns

@@ -5,7 +5,7 @@ use mathlib.Core.Logic.{inl, inr}
 use lib.ListN.{length}
 use Rattle.ground.specs.Answers.{answer_of}
 use Rattle.ground.specs.Outcome.{writes-by}
-use Rattle.sets.specs.Bounds.{bounds}
+use Rattle.sets.proofs.Bounds.{bounds}
 use Rattle.refusals.specs.Fits.{keygen-fits}
 use Rattle.scheme.specs.Refusals.{keygen_refusals}
 use Rattle.keys.proofs.generate.Goals as goal

@@ -1,6 +1,6 @@
 -- `linear::clear_column` meets its contract. The invariant: the rows before row r have gained their factor times the pivot row (`PlusRows`).
 -- A turn is one gain of a whole row, right-hand element included (`gained`, `cleared-next`).
-use Rattle.field.specs.Field.{add, mul}
+use Rattle.field.specs.Field.{add}
 use Rattle.rows.specs.PlusRows.{rows_none}
 use Rattle.linear.specs.Row.{row_at, gained}
 use Rattle.rows.specs.RowsJoin.{rows_end}

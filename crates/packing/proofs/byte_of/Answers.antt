@@ -4,7 +4,7 @@ use Prim.Native.Nat.{ℕ, ◌+◌, ◌*◌, ◌<◌}
 use native.Mathlib.Omega.{arith}
 use lib.ListN.{get_or, get_or-eq_default}
 use Rattle.packing.specs.Packing.{byte_of}
-use Rattle.packing.specs.Laws.{in-field-lt}
+use Rattle.packing.proofs.Laws.{in-field-lt}
 use Rattle.packing.proofs.byte_of.Goals as goal
 
 pub joined-requires : goal.joined-requires

@@ -3,7 +3,7 @@
 use mathlib.Core.Path.{◌≡◌, sym, ◌∙◌}
 use Prim.Native.Nat.{◌%◌}
 use native.Mathlib.Omega.{arith}
-use Rattle.packing.specs.Laws.{element-even, element-odd}
+use Rattle.packing.proofs.Laws.{element-even, element-odd}
 use Rattle.packing.proofs.element.Goals as goal
 
 pub returns-then-e-eq0 : goal.returns-then-e-eq0

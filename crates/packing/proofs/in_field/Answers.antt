@@ -4,19 +4,15 @@ use mathlib.Core.Path.{refl, sym, ap, ◌∙◌}
 use native.Mathlib.Omega.{arith}
 use lib.ListN.{drop_of_length-le}
 use Rattle.packing.specs.Packing.{in_field}
-use Rattle.packing.specs.Laws.{in-field-next, in-field-stop}
+use Rattle.packing.proofs.Laws.{in-field-next}
 use Rattle.packing.proofs.in_field.Goals as goal
 
 pub loop-k-init : goal.loop-k-init
 loop-k-init c = (omega arith, refl)
 
-pub returns-then-elements-k-gt15 : goal.returns-then-elements-k-gt15
-returns-then-elements-k-gt15 c =
-    sym (sym c.loop-k.invariant.1 ∙ in-field-stop _ c.loop-k.k c.loop-k-test.true c.if-elements-k-gt15.true)
-
 pub loop-k-preserved : goal.loop-k-preserved
 loop-k-preserved c =
-    (omega arith, sym (in-field-next _ c.loop-k.k c.loop-k-test.true c.if-elements-k-gt15.false) ∙ c.loop-k.invariant.1)
+    (omega arith, sym (in-field-next _ c.loop-k.k c.loop-k-test.true (omega arith)) ∙ c.loop-k.invariant.1)
 
 pub returns : goal.returns
 unfolding in_field

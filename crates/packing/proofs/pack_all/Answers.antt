@@ -1,7 +1,7 @@
 -- `packing::pack_all` meets its contract. The loop's invariant: the first j bytes are packed, and the others are as they were.
 -- Rests on ground's Segment and on what `byte_of` ensures.
 use Rattle.ground.specs.Segment.{segment-none, fill-next, fill_end}
-use Rattle.packing.specs.Packing.{packed_bytes, byte_of, packed}
+use Rattle.packing.specs.Packing.{packed_bytes, packed}
 use native.Mathlib.Omega.{arith}
 use Rattle.packing.proofs.pack_all.Goals as goal
 

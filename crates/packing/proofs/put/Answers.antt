@@ -2,7 +2,7 @@
 -- Rests on `put_low` and `put-high`.
 use native.Mathlib.Omega.{arith}
 use borrow.Author.Rules.{rules}
-use Rattle.packing.specs.Written.{put_low, put-high}
+use Rattle.packing.proofs.Written.{put_low, put-high}
 use Rattle.packing.proofs.put.Goals as goal
 
 pub joined-requires : goal.joined-requires

@@ -2,7 +2,7 @@
 use mathlib.Core.Path.{sym, ◌∙◌}
 use Prim.Native.Nat.{◌*◌}
 use lib.ListN.{length-set}
-use Rattle.packing.specs.Laws.{element-low, element-high}
+use Rattle.packing.proofs.Laws.{element-low, element-high}
 use Rattle.packing.specs.Spread.{spread_none, spread-next, spread_end}
 use borrow.Author.Rules.{rules}
 use native.Mathlib.Omega.{arith}

@@ -2,7 +2,7 @@
 -- Rests on ground's Segment and on what `element` ensures.
 use mathlib.Core.Path.{refl}
 use Rattle.ground.specs.Segment.{segment-none, fill-next, fill_end}
-use Rattle.packing.specs.Packing.{packed_bytes, element, unpacked}
+use Rattle.packing.specs.Packing.{packed_bytes, unpacked}
 use native.Mathlib.Omega.{arith}
 use Rattle.packing.proofs.unpack_all.Goals as goal
 

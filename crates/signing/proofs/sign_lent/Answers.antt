@@ -20,7 +20,7 @@ emit-requires c =
     sign-lent c.args.set c.args.public.now c.args.abq.now c.args.private.now c.args.vinegar.now c.args.target.now c.args.salt.now
     c.args.work.now c.args.output.now c.requires in
     let f = lent in
-    let solved = c.solve-outcome in record { bounds = f.bounds; private_len = (f.private-long, f.vinegar-long); output_len = (output-length c.args.set f.output-long f.salt-long, system-within c.args.set solved.auto.work f.work-long); by_index = (solved.ensures.solved c.in-Solved.is).small }
+    let solved = c.solve-outcome in record { bounds = f.bounds; private_len = (f.private-long, f.vinegar-long); output_len = (output-length c.args.set f.output-long f.salt-long, system-within c.args.set solved.auto.work f.work-long); by_index = (solved.ensures.solved (cc)).small }
 
 pub returns-in-Solved : goal.returns-in-Solved
 returns-in-Solved c =

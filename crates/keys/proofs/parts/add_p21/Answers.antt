@@ -38,8 +38,7 @@ nonzero_rem-y c =
 
 pub add_block_row-requires : goal.add_block_row-requires
 add_block_row-requires c =
-    let turn : RowTurn c.args.set c.loop-y.y = row-turn c.requires.bounds c.loop-y-test.true in
-    (
+    let turn : RowTurn c.args.set c.loop-y.y = row-turn c.requires.bounds c.loop-y-test.true in (
       omega (arith, turn.row, c.requires.i_lt_o.2, c.loop-y.invariant.so_far.long),
       turn.entry,
       public-within c.requires.bounds c.args.public.now c.requires.i_lt_o.1 c.p21_number-p21.ensures.within,

@@ -46,8 +46,7 @@ overflow_mul-v c =
 
 pub add_transposed-requires : goal.add_transposed-requires
 add_transposed-requires c =
-    let sizes : TableSizes c.args.set = table-sizes c.requires.bounds.0 in
-    (
+    let sizes : TableSizes c.args.set = table-sizes c.requires.bounds.0 in (
       kept-room c.requires.bounds.1.1 c.add_products.auto.dst,
       (omega (arith, c.requires.public_len.1.1), (c.requires.l_in_bounds, sizes.rows)),
     )

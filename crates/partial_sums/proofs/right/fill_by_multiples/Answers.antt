@@ -61,8 +61,7 @@ add_transposed-requires c =
     let sums-stack : (let set = c.args.set in let i = c.loop-i.i in i * (set.l * set.l * (set.l * set.l)) + set.l * set.l * (set.l * set.l) ≤ set.o * (set.l * set.l) * (set.l * set.l)) =
     let set = c.args.set in
     stack-fits (set.l * set.l) (set.l * set.l) c.loop-i-test.true in
-    let sizes : TableSizes c.args.set = table-sizes c.requires.bounds.0 in
-    (
+    let sizes : TableSizes c.args.set = table-sizes c.requires.bounds.0 in (
       omega (arith, sums-stack, c.requires.bounds.1.1, c.loop-i.invariant.1.1.so_far.long, c.clear-2.auto.s),
       (omega (arith, c.requires.public_len.1.0), (omega (arith, sizes.vlll, c.loop-i.invariant.0, c.load_products.auto.y), sizes.rows)),
     )
@@ -115,5 +114,8 @@ loop-i-preserved c =
 pub returns : goal.returns
 returns c =
     let a = c.args in
-    let end = c.loop-i-test.false in record { right_holds = right-filled a.set a.public.now a.x.now a.t.now a.right.now c.clear.ensures
-          (stacking-end c.loop-i.invariant.1.0 end); sums_hold = sums-filled a.set a.public.now a.x.now a.sums.now c.clear-2.ensures (stacking-end c.loop-i.invariant.1.1 end) }
+    let end = c.loop-i-test.false in record {
+      right_holds = right-filled a.set a.public.now a.x.now a.t.now a.right.now c.clear.ensures
+          (stacking-end c.loop-i.invariant.1.0 end);
+      sums_hold = sums-filled a.set a.public.now a.x.now a.sums.now c.clear-2.ensures (stacking-end c.loop-i.invariant.1.1 end);
+    }

@@ -1,7 +1,7 @@
 -- `sets::count::all_terms` meets its contract: o times what `terms` answers.
 use mathlib.Core.Path.{ap}
 use Prim.Native.Nat.{◌*◌}
-use Rattle.sets.specs.Sets.{terms, all_terms}
+use Rattle.sets.specs.Sets.{all_terms}
 use native.Mathlib.Omega.{arith}
 use Rattle.sets.proofs.count.all_terms.Goals as goal
 

@@ -3,7 +3,7 @@
 use mathlib.Core.Path.{refl, sym, ◌∙◌, ap}
 use Rattle.ground.specs.Pick.{picked_first, picked-second}
 use Rattle.sets.specs.Sets.{bytes_for, key_bytes}
-use Rattle.sets.specs.Bounds.{bounds}
+use Rattle.sets.proofs.Bounds.{bounds}
 use Rattle.sets.proofs.length.key_bytes.Goals as goal
 
 pub key_count-requires : goal.key_count-requires

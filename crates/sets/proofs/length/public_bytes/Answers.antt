@@ -3,7 +3,7 @@
 use mathlib.Core.Path.{refl, sym, ◌∙◌, ap}
 use Rattle.ground.specs.Pick.{picked_first, picked-second}
 use Rattle.sets.specs.Sets.{bytes_for, public_bytes}
-use Rattle.sets.specs.Bounds.{bounds}
+use Rattle.sets.proofs.Bounds.{bounds}
 use Rattle.sets.proofs.length.public_bytes.Goals as goal
 
 pub public_count-requires : goal.public_count-requires

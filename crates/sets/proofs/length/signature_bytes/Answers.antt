@@ -5,7 +5,7 @@ use Prim.Native.Nat.{◌+◌}
 use native.Mathlib.Omega.{arith}
 use Rattle.ground.specs.Pick.{picked_first, picked-second}
 use Rattle.sets.specs.Sets.{bytes_for, salt_bytes, signature_bytes}
-use Rattle.sets.specs.Bounds.{bounds}
+use Rattle.sets.proofs.Bounds.{bounds}
 use Rattle.sets.proofs.length.signature_bytes.Goals as goal
 
 pub signature_count-requires : goal.signature_count-requires

@@ -6,7 +6,8 @@ use native.Mathlib.Nat.{mul-le-mul}
 use native.Mathlib.Omega.{arith}
 use Rattle.ground.specs.Pick.{picked_first, picked-second}
 use Rattle.sets.specs.Sets.{most_row, work_bytes}
-use Rattle.sets.specs.Bounds.{Bounds, bounds}
+use Rattle.sets.specs.Bounds.{Bounds}
+use Rattle.sets.proofs.Bounds.{bounds}
 use Rattle.sets.proofs.length.work_bytes.Goals as goal
 
 pub unknowns-n-requires : goal.unknowns-n-requires

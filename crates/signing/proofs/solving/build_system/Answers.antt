@@ -49,14 +49,17 @@ slice_bounds-fill_left-end-3 c = sym c.private_table.auto.t
 
 pub fill_left-requires : goal.fill_left-requires
 fill_left-requires c =
-    let b = c.requires.bounds.0 in record { bounds = (b, left-room b); public_len = (
+    let b = c.requires.bounds.0 in record {
+      bounds = (b, left-room b);
+      public_len = (
         c.requires.public_len.0,
         (
           kept-room (vinegar-powers-room b) c.load_vinegar.auto.x,
           kept-room (private-room b)
               c.private_table.auto.t,
         ),
-      ) }
+      );
+    }
 
 pub slice_bounds-fill_right-end : goal.slice_bounds-fill_right-end
 slice_bounds-fill_right-end c = refl

@@ -27,12 +27,15 @@ overflow_mul-y-in-loop-y c =
 pub add_columns-requires : goal.add_columns-requires
 add_columns-requires c =
     let turn : OilTurn c.args.set c.loop-y.y = oil-turn c.args.set c.loop-y-test.true in
-    record { n_in_bounds = (
+    record {
+      n_in_bounds = (
         omega (arith, turn, c.requires.l_in_bounds, c.loop-y.invariant.so_far.long),
         omega
             (arith, turn, c.requires.l_in_bounds, c.loop-y.invariant.so_far.long),
-      ); by_index = λ x h. omega
-          (arith, turn, c.requires.l_in_bounds, c.loop-y.invariant.so_far.long) }
+      );
+      by_index = λ x h. omega
+          (arith, turn, c.requires.l_in_bounds, c.loop-y.invariant.so_far.long);
+    }
 
 pub overflow_add-y : goal.overflow_add-y
 overflow_add-y c =

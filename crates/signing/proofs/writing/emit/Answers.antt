@@ -28,8 +28,13 @@ slice_bounds-solution_list-end-2 c = sym c.read_solution.auto.oil
 
 pub solution_list-requires : goal.solution_list-requires
 solution_list-requires c =
-    let b = c.requires.bounds in record { bounds = b; private_len = c.requires.private_len; set_in_bounds = (omega (arith, b.sizes.signature), omega (arith, b.sizes.unknowns, c.read_solution.auto.oil)); by_index = λ e h. rw
-              (solution-read c.args.work.now c.unknowns-n.ensures c.read_solution.ensures e h) (c.requires.by_index e h) }
+    let b = c.requires.bounds in record {
+      bounds = b;
+      private_len = c.requires.private_len;
+      set_in_bounds = (omega (arith, b.sizes.signature), omega (arith, b.sizes.unknowns, c.read_solution.auto.oil));
+      by_index = λ e h. rw
+          (solution-read c.args.work.now c.unknowns-n.ensures c.read_solution.ensures e h) (c.requires.by_index e h);
+    }
 
 pub slice_bounds-write_output-end : goal.slice_bounds-write_output-end
 slice_bounds-write_output-end c = sym c.solution_list.auto.u
@@ -37,9 +42,14 @@ slice_bounds-write_output-end c = sym c.solution_list.auto.u
 pub write_output-requires : goal.write_output-requires
 write_output-requires c =
     let b = c.requires.bounds in
-    let list = c.solution_list.ensures in record { bounds = b; output_len = (c.requires.output_len.0, omega (arith, b.sizes.signature, c.solution_list.auto.u)); by_index = list-lt list (oil-read c.read_solution.new.oil (some-l b)
-              (λ e h. rw (solution-read c.args.work.now c.unknowns-n.ensures c.read_solution.ensures e h)
-              (c.requires.by_index e h))); by_index_2 = list.beyond }
+    let list = c.solution_list.ensures in record {
+      bounds = b;
+      output_len = (c.requires.output_len.0, omega (arith, b.sizes.signature, c.solution_list.auto.u));
+      by_index = list-lt list (oil-read c.read_solution.new.oil (some-l b)
+          (λ e h. rw (solution-read c.args.work.now c.unknowns-n.ensures c.read_solution.ensures e h)
+          (c.requires.by_index e h)));
+      by_index_2 = list.beyond;
+    }
 
 pub returns : goal.returns
 returns c =

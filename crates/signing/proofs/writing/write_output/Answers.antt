@@ -17,11 +17,14 @@ overflow_mul-bytes c =
 pub put_row-requires : goal.put_row-requires
 unfolding packed_bytes
 put_row-requires c =
-    record { n_bound = (
+    record {
+      n_bound = (
         omega (arith, c.packed_bytes-bytes.ensures, c.signature_count-count.ensures, c.requires.output_len.0),
         omega
             (arith, c.packed_bytes-bytes.ensures, c.signature_count-count.ensures, c.requires.output_len.1),
-      ); by_index = λ k h. c.requires.by_index (0 + k) }
+      );
+      by_index = λ k h. c.requires.by_index (0 + k);
+    }
 
 pub write_salt-requires : goal.write_salt-requires
 unfolding packed_bytes

@@ -9,8 +9,7 @@ use Rattle.streams.proofs.laid.lay_blocks.Goals as goal
 
 pub overflow_mul-size : goal.overflow_mul-size
 overflow_mul-size c =
-    let block-fits : (c.args.l * c.args.l ≤ length c.args.flat.now) × (c.args.number + c.args.count ≤ 2 * length c.args.stream.now) =
-    (
+    let block-fits : (c.args.l * c.args.l ≤ length c.args.flat.now) × (c.args.number + c.args.count ≤ 2 * length c.args.stream.now) = (
       block_room c.args.l c.requires.1.1.0 (omega (arith, c.requires.1.0)),
       le_trans (blocks-le _ c.requires.1.1.1) c.requires.0,
     ) in
@@ -18,8 +17,7 @@ overflow_mul-size c =
 
 pub overflow_add-end : goal.overflow_add-end
 overflow_add-end c =
-    let block-fits : (c.args.l * c.args.l ≤ length c.args.flat.now) × (c.args.number + c.args.count ≤ 2 * length c.args.stream.now) =
-    (
+    let block-fits : (c.args.l * c.args.l ≤ length c.args.flat.now) × (c.args.number + c.args.count ≤ 2 * length c.args.stream.now) = (
       block_room c.args.l c.requires.1.1.0 (omega (arith, c.requires.1.0)),
       le_trans (blocks-le _ c.requires.1.1.1) c.requires.0,
     ) in

@@ -30,7 +30,6 @@ overflow_add-place c = omega (arith, (table-sizes c.requires.bounds.0).oll)
 pub overflow_mul-place : goal.overflow_mul-place
 overflow_mul-place c =
     let turn : (let set = c.args.set in RowTurn set.l (set.o * set.l * set.l + 1) c.loop-e.e) =
-
     let set = c.args.set in
     let limits = c.requires.bounds.0.limits in
     row-turn set.l (set.o * set.l * set.l + 1) (omega (arith, limits.l-least)) (omega (arith, limits.l-most)) c.loop-e-test.true in
@@ -39,7 +38,6 @@ overflow_mul-place c =
 pub overflow_add-place-in-loop-e : goal.overflow_add-place-in-loop-e
 overflow_add-place-in-loop-e c =
     let turn : (let set = c.args.set in RowTurn set.l (set.o * set.l * set.l + 1) c.loop-e.e) =
-
     let set = c.args.set in
     let limits = c.requires.bounds.0.limits in
     row-turn set.l (set.o * set.l * set.l + 1) (omega (arith, limits.l-least)) (omega (arith, limits.l-most)) c.loop-e-test.true in
@@ -48,7 +46,6 @@ overflow_add-place-in-loop-e c =
 pub overflow_add-place-in-loop-e-2 : goal.overflow_add-place-in-loop-e-2
 overflow_add-place-in-loop-e-2 c =
     let turn : (let set = c.args.set in RowTurn set.l (set.o * set.l * set.l + 1) c.loop-e.e) =
-
     let set = c.args.set in
     let limits = c.requires.bounds.0.limits in
     row-turn set.l (set.o * set.l * set.l + 1) (omega (arith, limits.l-least)) (omega (arith, limits.l-most)) c.loop-e-test.true in
@@ -60,7 +57,6 @@ nonzero_div-e c = omega (arith, c.requires.bounds.0.limits.l-least)
 pub overflow_mul-e : goal.overflow_mul-e
 overflow_mul-e c =
     let turn : (let set = c.args.set in RowTurn set.l (set.o * set.l * set.l + 1) c.loop-e.e) =
-
     let set = c.args.set in
     let limits = c.requires.bounds.0.limits in
     row-turn set.l (set.o * set.l * set.l + 1) (omega (arith, limits.l-least)) (omega (arith, limits.l-most)) c.loop-e-test.true in
@@ -72,7 +68,6 @@ nonzero_rem-e c = omega (arith, c.requires.bounds.0.limits.l-least)
 pub overflow_add-e : goal.overflow_add-e
 overflow_add-e c =
     let turn : (let set = c.args.set in RowTurn set.l (set.o * set.l * set.l + 1) c.loop-e.e) =
-
     let set = c.args.set in
     let limits = c.requires.bounds.0.limits in
     row-turn set.l (set.o * set.l * set.l + 1) (omega (arith, limits.l-least)) (omega (arith, limits.l-most)) c.loop-e-test.true in
@@ -81,7 +76,6 @@ overflow_add-e c =
 pub add_scaled-requires : goal.add_scaled-requires
 add_scaled-requires c =
     let turn : (let set = c.args.set in RowTurn set.l (set.o * set.l * set.l + 1) c.loop-e.e) =
-
     let set = c.args.set in
     let limits = c.requires.bounds.0.limits in
     row-turn set.l (set.o * set.l * set.l + 1) (omega (arith, limits.l-least)) (omega (arith, limits.l-most)) c.loop-e-test.true in
@@ -102,12 +96,10 @@ overflow_add-i c =
 pub add_elements-requires : goal.add_elements-requires
 add_elements-requires c =
     let turn : (let set = c.args.set in RowTurn set.l (set.o * set.l * set.l + 1) c.loop-e.e) =
-
     let set = c.args.set in
     let limits = c.requires.bounds.0.limits in
     row-turn set.l (set.o * set.l * set.l + 1) (omega (arith, limits.l-least)) (omega (arith, limits.l-most)) c.loop-e-test.true in
-    let number : (let set = c.args.set in c.args.i * (set.l * set.l) + c.loop-e.e < set.o * (set.l * set.l)) = digits_lt c.requires.bounds.1 c.loop-e-test.true in
-    (
+    let number : (let set = c.args.set in c.args.i * (set.l * set.l) + c.loop-e.e < set.o * (set.l * set.l)) = digits_lt c.requires.bounds.1 c.loop-e-test.true in (
       omega (arith, turn.row, c.requires.l_in_bounds.0, c.loop-e.invariant.so_far.long, c.add_scaled.auto.dst),
       omega (arith, number, target-within c.requires.bounds.0 c.requires.l_in_bounds.1),
     )
@@ -115,7 +107,6 @@ add_elements-requires c =
 pub overflow_add-e-in-loop-e : goal.overflow_add-e-in-loop-e
 overflow_add-e-in-loop-e c =
     let turn : (let set = c.args.set in RowTurn set.l (set.o * set.l * set.l + 1) c.loop-e.e) =
-
     let set = c.args.set in
     let limits = c.requires.bounds.0.limits in
     row-turn set.l (set.o * set.l * set.l + 1) (omega (arith, limits.l-least)) (omega (arith, limits.l-most)) c.loop-e-test.true in

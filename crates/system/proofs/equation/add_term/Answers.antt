@@ -73,8 +73,11 @@ pub returns : goal.returns
 returns c =
     let a = c.args in
     let first-is = c.combined-first.ensures in
-    let last-is = c.combined-last.ensures in record { by_index = λ abq i alpha is.
+    let last-is = c.combined-last.ensures in record {
+      by_index = λ abq i alpha is.
           left-products c.requires.bounds.0 abq a.left.now a.right.now a.sp.now is first-is last-is c.transposed-bt.ensures
-          c.fill_sides.ensures.0 c.add_outer.ensures; by_index_2 = λ abq i alpha is.
+          c.fill_sides.ensures.0 c.add_outer.ensures;
+      by_index_2 = λ abq i alpha is.
           right-products c.requires.bounds.0 abq a.left.now a.right.now a.sp.now is first-is last-is c.fill_sides-2.ensures.0
-          c.add_outer-2.ensures }
+          c.add_outer-2.ensures;
+    }

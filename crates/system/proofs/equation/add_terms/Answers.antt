@@ -24,14 +24,12 @@ loop-alpha-init c = ((refl, refl), ((summing-none, summing-none), (omega arith, 
 pub read_term-term-requires : goal.read_term-term-requires
 read_term-term-requires c =
     let place : TermPlace c.args.set c.args.i c.loop-alpha.alpha =
-
     record { bounds = c.requires.bounds.0; equation = c.requires.bounds.1; below = omega (arith, c.loop-alpha-test.true, c.terms-count.ensures) } in
     record { term_place = place; abq_lent = c.requires.abq_lent.0 }
 
 pub add_term-requires : goal.add_term-requires
 add_term-requires c =
     let place : TermPlace c.args.set c.args.i c.loop-alpha.alpha =
-
     record { bounds = c.requires.bounds.0; equation = c.requires.bounds.1; below = omega (arith, c.loop-alpha-test.true, c.terms-count.ensures) } in
     let term = c.read_term-term.ensures in
     let inv = c.loop-alpha.invariant.0 in
@@ -40,7 +38,6 @@ add_term-requires c =
 pub term_block-value-requires : goal.term_block-value-requires
 term_block-value-requires c =
     let place : TermPlace c.args.set c.args.i c.loop-alpha.alpha =
-
     record { bounds = c.requires.bounds.0; equation = c.requires.bounds.1; below = omega (arith, c.loop-alpha-test.true, c.terms-count.ensures) } in
     let index : c.read_term-term.result.index < c.args.set.o = rw c.read_term-term.ensures.index (index-lt (place)) in
     (c.requires.bounds.0.limits.l-most, sums-within c.args.set.l index c.requires.abq_lent.1)
@@ -48,14 +45,12 @@ term_block-value-requires c =
 pub overflow_add-alpha : goal.overflow_add-alpha
 overflow_add-alpha c =
     let place : TermPlace c.args.set c.args.i c.loop-alpha.alpha =
-
     record { bounds = c.requires.bounds.0; equation = c.requires.bounds.1; below = omega (arith, c.loop-alpha-test.true, c.terms-count.ensures) } in
     omega (arith, place.below, place.bounds.sizes.terms)
 
 pub loop-alpha-preserved : goal.loop-alpha-preserved
 loop-alpha-preserved c =
     let place : TermPlace c.args.set c.args.i c.loop-alpha.alpha =
-
     record { bounds = c.requires.bounds.0; equation = c.requires.bounds.1; below = omega (arith, c.loop-alpha-test.true, c.terms-count.ensures) } in
     let a = c.args in
     let inv = c.loop-alpha.invariant in

@@ -23,21 +23,18 @@ nonzero_div-left c = omega (arith, c.requires.l_in_bounds.1.0)
 pub overflow_mul-left : goal.overflow_mul-left
 overflow_mul-left c =
     let turn : CellTurn c.args.l c.args.count c.args.r c.args.c c.loop-q.q =
-
     cell-turn c.args.l c.args.count c.args.r c.args.c (omega (arith, c.requires.l_in_bounds.1.0)) c.requires.l_in_bounds.1.0 c.requires.l_in_bounds.1.1.0 c.loop-q-test.true in
     omega (arith, turn, c.requires)
 
 pub overflow_add-left : goal.overflow_add-left
 overflow_add-left c =
     let turn : CellTurn c.args.l c.args.count c.args.r c.args.c c.loop-q.q =
-
     cell-turn c.args.l c.args.count c.args.r c.args.c (omega (arith, c.requires.l_in_bounds.1.0)) c.requires.l_in_bounds.1.0 c.requires.l_in_bounds.1.1.0 c.loop-q-test.true in
     omega (arith, turn, c.requires)
 
 pub overflow_mul-left-in-loop-q : goal.overflow_mul-left-in-loop-q
 overflow_mul-left-in-loop-q c =
     let turn : CellTurn c.args.l c.args.count c.args.r c.args.c c.loop-q.q =
-
     cell-turn c.args.l c.args.count c.args.r c.args.c (omega (arith, c.requires.l_in_bounds.1.0)) c.requires.l_in_bounds.1.0 c.requires.l_in_bounds.1.1.0 c.loop-q-test.true in
     omega (arith, turn, c.requires)
 
@@ -47,42 +44,36 @@ nonzero_rem-left c = omega (arith, c.requires.l_in_bounds.1.0)
 pub overflow_add-left-in-loop-q : goal.overflow_add-left-in-loop-q
 overflow_add-left-in-loop-q c =
     let turn : CellTurn c.args.l c.args.count c.args.r c.args.c c.loop-q.q =
-
     cell-turn c.args.l c.args.count c.args.r c.args.c (omega (arith, c.requires.l_in_bounds.1.0)) c.requires.l_in_bounds.1.0 c.requires.l_in_bounds.1.1.0 c.loop-q-test.true in
     omega (arith, turn, c.requires)
 
 pub overflow_mul-right : goal.overflow_mul-right
 overflow_mul-right c =
     let turn : CellTurn c.args.l c.args.count c.args.r c.args.c c.loop-q.q =
-
     cell-turn c.args.l c.args.count c.args.r c.args.c (omega (arith, c.requires.l_in_bounds.1.0)) c.requires.l_in_bounds.1.0 c.requires.l_in_bounds.1.1.0 c.loop-q-test.true in
     omega (arith, turn, c.requires)
 
 pub overflow_add-right : goal.overflow_add-right
 overflow_add-right c =
     let turn : CellTurn c.args.l c.args.count c.args.r c.args.c c.loop-q.q =
-
     cell-turn c.args.l c.args.count c.args.r c.args.c (omega (arith, c.requires.l_in_bounds.1.0)) c.requires.l_in_bounds.1.0 c.requires.l_in_bounds.1.1.0 c.loop-q-test.true in
     omega (arith, turn, c.requires)
 
 pub overflow_mul-q : goal.overflow_mul-q
 overflow_mul-q c =
     let turn : CellTurn c.args.l c.args.count c.args.r c.args.c c.loop-q.q =
-
     cell-turn c.args.l c.args.count c.args.r c.args.c (omega (arith, c.requires.l_in_bounds.1.0)) c.requires.l_in_bounds.1.0 c.requires.l_in_bounds.1.1.0 c.loop-q-test.true in
     omega (arith, turn, c.requires)
 
 pub overflow_add-at : goal.overflow_add-at
 overflow_add-at c =
     let turn : CellTurn c.args.l c.args.count c.args.r c.args.c c.loop-q.q =
-
     cell-turn c.args.l c.args.count c.args.r c.args.c (omega (arith, c.requires.l_in_bounds.1.0)) c.requires.l_in_bounds.1.0 c.requires.l_in_bounds.1.1.0 c.loop-q-test.true in
     omega (arith, turn, c.requires)
 
 pub overflow_mul-left-in-loop-q-2 : goal.overflow_mul-left-in-loop-q-2
 overflow_mul-left-in-loop-q-2 c =
     let turn : CellTurn c.args.l c.args.count c.args.r c.args.c c.loop-q.q =
-
     cell-turn c.args.l c.args.count c.args.r c.args.c (omega (arith, c.requires.l_in_bounds.1.0)) c.requires.l_in_bounds.1.0 c.requires.l_in_bounds.1.1.0 c.loop-q-test.true in
     omega (arith, turn, c.requires)
 
@@ -92,35 +83,30 @@ overflow_mul-c c = omega (arith, c.requires)
 pub overflow_add-left-in-loop-q-2 : goal.overflow_add-left-in-loop-q-2
 overflow_add-left-in-loop-q-2 c =
     let turn : CellTurn c.args.l c.args.count c.args.r c.args.c c.loop-q.q =
-
     cell-turn c.args.l c.args.count c.args.r c.args.c (omega (arith, c.requires.l_in_bounds.1.0)) c.requires.l_in_bounds.1.0 c.requires.l_in_bounds.1.1.0 c.loop-q-test.true in
     omega (arith, turn, c.requires)
 
 pub add_scaled-requires : goal.add_scaled-requires
 add_scaled-requires c =
     let turn : CellTurn c.args.l c.args.count c.args.r c.args.c c.loop-q.q =
-
     cell-turn c.args.l c.args.count c.args.r c.args.c (omega (arith, c.requires.l_in_bounds.1.0)) c.requires.l_in_bounds.1.0 c.requires.l_in_bounds.1.1.0 c.loop-q-test.true in
     omega (arith, turn, c.requires, c.loop-q.invariant.so_far.long)
 
 pub overflow_mul-q-in-loop-q : goal.overflow_mul-q-in-loop-q
 overflow_mul-q-in-loop-q c =
     let turn : CellTurn c.args.l c.args.count c.args.r c.args.c c.loop-q.q =
-
     cell-turn c.args.l c.args.count c.args.r c.args.c (omega (arith, c.requires.l_in_bounds.1.0)) c.requires.l_in_bounds.1.0 c.requires.l_in_bounds.1.1.0 c.loop-q-test.true in
     omega (arith, turn, c.requires)
 
 pub overflow_add-at-in-loop-q : goal.overflow_add-at-in-loop-q
 overflow_add-at-in-loop-q c =
     let turn : CellTurn c.args.l c.args.count c.args.r c.args.c c.loop-q.q =
-
     cell-turn c.args.l c.args.count c.args.r c.args.c (omega (arith, c.requires.l_in_bounds.1.0)) c.requires.l_in_bounds.1.0 c.requires.l_in_bounds.1.1.0 c.loop-q-test.true in
     omega (arith, turn, c.requires)
 
 pub overflow_mul-right-in-loop-q : goal.overflow_mul-right-in-loop-q
 overflow_mul-right-in-loop-q c =
     let turn : CellTurn c.args.l c.args.count c.args.r c.args.c c.loop-q.q =
-
     cell-turn c.args.l c.args.count c.args.r c.args.c (omega (arith, c.requires.l_in_bounds.1.0)) c.requires.l_in_bounds.1.0 c.requires.l_in_bounds.1.1.0 c.loop-q-test.true in
     omega (arith, turn, c.requires)
 
@@ -130,14 +116,12 @@ overflow_mul-r c = omega (arith, c.requires)
 pub overflow_add-right-in-loop-q : goal.overflow_add-right-in-loop-q
 overflow_add-right-in-loop-q c =
     let turn : CellTurn c.args.l c.args.count c.args.r c.args.c c.loop-q.q =
-
     cell-turn c.args.l c.args.count c.args.r c.args.c (omega (arith, c.requires.l_in_bounds.1.0)) c.requires.l_in_bounds.1.0 c.requires.l_in_bounds.1.1.0 c.loop-q-test.true in
     omega (arith, turn, c.requires)
 
 pub add_scaled-requires-in-loop-q : goal.add_scaled-requires-in-loop-q
 add_scaled-requires-in-loop-q c =
     let turn : CellTurn c.args.l c.args.count c.args.r c.args.c c.loop-q.q =
-
     cell-turn c.args.l c.args.count c.args.r c.args.c (omega (arith, c.requires.l_in_bounds.1.0)) c.requires.l_in_bounds.1.0 c.requires.l_in_bounds.1.1.0 c.loop-q-test.true in
     omega (arith, turn, c.requires, c.loop-q.invariant.so_far.long, c.add_scaled.auto.dst)
 

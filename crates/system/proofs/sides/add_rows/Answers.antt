@@ -27,14 +27,12 @@ loop-e-init c = adding-none
 pub overflow_mul-e : goal.overflow_mul-e
 overflow_mul-e c =
     let turn : RowTurn c.args.l (c.args.count * c.args.l * c.args.l + 1) c.loop-e.e =
-
     row-turn c.args.l (c.args.count * c.args.l * c.args.l + 1) c.requires.l_in_bounds.1.0 c.requires.l_in_bounds.1.1.0 c.loop-e-test.true in
     omega (arith, turn, c.requires.l_in_bounds)
 
 pub overflow_add-at : goal.overflow_add-at
 overflow_add-at c =
     let turn : RowTurn c.args.l (c.args.count * c.args.l * c.args.l + 1) c.loop-e.e =
-
     row-turn c.args.l (c.args.count * c.args.l * c.args.l + 1) c.requires.l_in_bounds.1.0 c.requires.l_in_bounds.1.1.0 c.loop-e-test.true in
     omega (arith, turn, c.requires.l_in_bounds)
 
@@ -47,14 +45,12 @@ nonzero_rem-e c = omega (arith, c.requires.l_in_bounds.1.0)
 pub add_row-requires : goal.add_row-requires
 add_row-requires c =
     let turn : RowTurn c.args.l (c.args.count * c.args.l * c.args.l + 1) c.loop-e.e =
-
     row-turn c.args.l (c.args.count * c.args.l * c.args.l + 1) c.requires.l_in_bounds.1.0 c.requires.l_in_bounds.1.1.0 c.loop-e-test.true in
     record { l_in_bounds = omega (arith, turn, c.requires.l_in_bounds, c.loop-e.invariant.so_far.long); stride_in_bounds = c.requires.stride_in_bounds }
 
 pub overflow_add-e : goal.overflow_add-e
 overflow_add-e c =
     let turn : RowTurn c.args.l (c.args.count * c.args.l * c.args.l + 1) c.loop-e.e =
-
     row-turn c.args.l (c.args.count * c.args.l * c.args.l + 1) c.requires.l_in_bounds.1.0 c.requires.l_in_bounds.1.1.0 c.loop-e-test.true in
     omega (arith, c.loop-e-test.true, turn.square)
 

@@ -15,7 +15,6 @@ loop-k-init c = adding-none
 pub overflow_mul-k : goal.overflow_mul-k
 overflow_mul-k c =
     let turn : TileFits c.args.l c.args.w (c.args.row + c.loop-k.k * c.args.across + 0 * c.args.down) (c.loop-k.k * c.args.down + 0 * c.args.across) (length c.args.table.now) =
-
     let here = c.requires.by_index c.loop-k.k 0 c.loop-k-test.true c.requires.l_nonzero.0 in
     tile-fits c.requires.l_nonzero.0 here.0 here.1 in
     omega (arith, turn)
@@ -23,7 +22,6 @@ overflow_mul-k c =
 pub overflow_add-row : goal.overflow_add-row
 overflow_add-row c =
     let turn : TileFits c.args.l c.args.w (c.args.row + c.loop-k.k * c.args.across + 0 * c.args.down) (c.loop-k.k * c.args.down + 0 * c.args.across) (length c.args.table.now) =
-
     let here = c.requires.by_index c.loop-k.k 0 c.loop-k-test.true c.requires.l_nonzero.0 in
     tile-fits c.requires.l_nonzero.0 here.0 here.1 in
     omega (arith, turn)
@@ -31,7 +29,6 @@ overflow_add-row c =
 pub overflow_mul-k-in-loop-k : goal.overflow_mul-k-in-loop-k
 overflow_mul-k-in-loop-k c =
     let turn : TileFits c.args.l c.args.w (c.args.row + c.loop-k.k * c.args.across + 0 * c.args.down) (c.loop-k.k * c.args.down + 0 * c.args.across) (length c.args.table.now) =
-
     let here = c.requires.by_index c.loop-k.k 0 c.loop-k-test.true c.requires.l_nonzero.0 in
     tile-fits c.requires.l_nonzero.0 here.0 here.1 in
     omega (arith, turn)

@@ -12,7 +12,6 @@ loop-r-init c = adding-none
 pub overflow_mul-r : goal.overflow_mul-r
 overflow_mul-r c =
     let row_inside : (let a = c.args in let r = c.loop-r.r in (r * a.l + a.l ≤ 16) × (r * a.n + a.n ≤ a.l * a.n)) =
-
     let most = c.requires.l_in_bounds.1.1.1.1 in
     (le_trans (row_room c.loop-r-test.true) (mul-le-mul most most), row_fits c.args.n c.loop-r-test.true) in
     omega (arith, row_inside.0)
@@ -20,7 +19,6 @@ overflow_mul-r c =
 pub overflow_add-place : goal.overflow_add-place
 overflow_add-place c =
     let row_inside : (let a = c.args in let r = c.loop-r.r in (r * a.l + a.l ≤ 16) × (r * a.n + a.n ≤ a.l * a.n)) =
-
     let most = c.requires.l_in_bounds.1.1.1.1 in
     (le_trans (row_room c.loop-r-test.true) (mul-le-mul most most), row_fits c.args.n c.loop-r-test.true) in
     omega (arith, row_inside.0, c.lay_blocks-place.ensures.early)
@@ -28,11 +26,9 @@ overflow_add-place c =
 pub product_word-w-requires : goal.product_word-w-requires
 product_word-w-requires c =
     let row_inside : (let a = c.args in let r = c.loop-r.r in (r * a.l + a.l ≤ 16) × (r * a.n + a.n ≤ a.l * a.n)) =
-
     let most = c.requires.l_in_bounds.1.1.1.1 in
     (le_trans (row_room c.loop-r-test.true) (mul-le-mul most most), row_fits c.args.n c.loop-r-test.true) in
-    let laid = c.lay_blocks-place in
-    (
+    let laid = c.lay_blocks-place in (
       omega (arith, c.requires.l_in_bounds.0),
       (omega (arith, row_inside.0, laid.ensures.early, laid.auto.flat, c.requires.l_in_bounds.1.0), c.requires.l_in_bounds.1.1.0),
     )
@@ -40,7 +36,6 @@ product_word-w-requires c =
 pub overflow_mul-r-in-loop-r : goal.overflow_mul-r-in-loop-r
 overflow_mul-r-in-loop-r c =
     let row_inside : (let a = c.args in let r = c.loop-r.r in (r * a.l + a.l ≤ 16) × (r * a.n + a.n ≤ a.l * a.n)) =
-
     let most = c.requires.l_in_bounds.1.1.1.1 in
     (le_trans (row_room c.loop-r-test.true) (mul-le-mul most most), row_fits c.args.n c.loop-r-test.true) in
     omega (arith, row_inside.1)
@@ -48,7 +43,6 @@ overflow_mul-r-in-loop-r c =
 pub overflow_add-at : goal.overflow_add-at
 overflow_add-at c =
     let row_inside : (let a = c.args in let r = c.loop-r.r in (r * a.l + a.l ≤ 16) × (r * a.n + a.n ≤ a.l * a.n)) =
-
     let most = c.requires.l_in_bounds.1.1.1.1 in
     (le_trans (row_room c.loop-r-test.true) (mul-le-mul most most), row_fits c.args.n c.loop-r-test.true) in
     omega (arith, row_inside.1)
@@ -56,7 +50,6 @@ overflow_add-at c =
 pub add_word-requires : goal.add_word-requires
 add_word-requires c =
     let row_inside : (let a = c.args in let r = c.loop-r.r in (r * a.l + a.l ≤ 16) × (r * a.n + a.n ≤ a.l * a.n)) =
-
     let most = c.requires.l_in_bounds.1.1.1.1 in
     (le_trans (row_room c.loop-r-test.true) (mul-le-mul most most), row_fits c.args.n c.loop-r-test.true) in
     omega (arith, row_inside.1, c.loop-r.invariant.long)

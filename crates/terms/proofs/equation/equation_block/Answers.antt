@@ -20,16 +20,12 @@ loop-alpha-init c = (omega arith, sum-start _ _)
 pub read_term-term-requires : goal.read_term-term-requires
 read_term-term-requires c =
     let place : (TermPlace c.args.set c.args.i c.loop-alpha.alpha) =
-
-
     record { bounds = c.requires.bounds.0; equation = c.requires.bounds.1; below = omega (arith, c.loop-alpha-test.true, c.terms-count.ensures) } in
     record { term_place = place; abq_lent = c.requires.abq_lent }
 
 pub term_block-value-requires : goal.term_block-value-requires
 term_block-value-requires c =
     let place : (TermPlace c.args.set c.args.i c.loop-alpha.alpha) =
-
-
     record { bounds = c.requires.bounds.0; equation = c.requires.bounds.1; below = omega (arith, c.loop-alpha-test.true, c.terms-count.ensures) } in
     let t = place in
     let index : c.read_term-term.result.index < c.args.set.o = rw c.read_term-term.ensures.index (index-lt t) in
@@ -38,8 +34,6 @@ term_block-value-requires c =
 pub overflow_add-alpha : goal.overflow_add-alpha
 overflow_add-alpha c =
     let place : (TermPlace c.args.set c.args.i c.loop-alpha.alpha) =
-
-
     record { bounds = c.requires.bounds.0; equation = c.requires.bounds.1; below = omega (arith, c.loop-alpha-test.true, c.terms-count.ensures) } in
     omega (arith, place.below, place.bounds.sizes.terms)
 

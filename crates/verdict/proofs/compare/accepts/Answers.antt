@@ -2,8 +2,9 @@
 use mathlib.Core.Path.{refl, ◌∙◌}
 use Prim.Native.Nat.{◌*◌, ◌≤◌}
 use Rattle.rows.specs.Zero.{length-zeros}
-use Rattle.sets.specs.Sets.{most_row, target_bytes, signature_count, signature_bytes, variables}
-use Rattle.sets.specs.Bounds.{Bounds, bounds}
+use Rattle.sets.specs.Sets.{most_row, target_bytes, signature_bytes, variables}
+use Rattle.sets.specs.Bounds.{Bounds}
+use Rattle.sets.proofs.Bounds.{bounds}
 use Rattle.sets.specs.Rooms.{list_room, list-room}
 use Rattle.verdict.specs.Difference.{signature-values, compared-accepted}
 use native.Mathlib.Omega.{arith}

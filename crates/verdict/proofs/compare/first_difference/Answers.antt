@@ -1,6 +1,5 @@
 -- `verdict::compare::first_difference` meets its contract. The invariant: the first e places agree; the first that does not is the answer. Rests on Difference.
 use mathlib.Core.Path.{sym, ◌∙◌}
-use Rattle.packing.specs.Packing.{element}
 use Rattle.verdict.specs.Difference.{agreeing-none, agreeing-next, agreeing-stops, agreeing-end}
 use native.Mathlib.Omega.{arith}
 use Rattle.verdict.proofs.compare.first_difference.Goals as goal

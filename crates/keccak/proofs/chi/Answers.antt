@@ -1,0 +1,10 @@
+-- `keccak::chi` meets its contract: the code's lanes are the definition's, written out.
+use mathlib.Core.Path.{refl}
+use Rattle.ground.specs.Fill.{tab}
+use Rattle.keccak.specs.Keccak.{xor, and, not, rotl, lane, state, chi}
+use Rattle.keccak.specs.Lanes.{listed}
+use Rattle.keccak.proofs.chi.Goals as goal
+
+pub returns : goal.returns
+unfolding listed tab xor and not rotl lane state chi
+returns c = refl

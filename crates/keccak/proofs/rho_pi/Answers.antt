@@ -1,0 +1,10 @@
+-- `keccak::rho_pi` meets its contract: the code's lanes are the definition's, written out.
+use mathlib.Core.Path.{refl}
+use Rattle.ground.specs.Fill.{tab}
+use Rattle.keccak.specs.Keccak.{xor, and, not, rotl, lane, state, offsets, rho, pi}
+use Rattle.keccak.specs.Lanes.{listed}
+use Rattle.keccak.proofs.rho_pi.Goals as goal
+
+pub returns : goal.returns
+unfolding listed tab xor and not rotl lane state pi rho offsets
+returns c = refl

@@ -1,0 +1,15 @@
+-- `shake::add_byte` meets its contract: the byte, shifted to its place in the lane, does not reach beyond the lane.
+use mathlib.Core.Path.{◌≡◌}
+use Prim.Native.Nat.{◌*◌, ◌%◌, ◌^◌}
+use lib.Pow.{shl_exact}
+use Rattle.shake.specs.Sponge.{add_byte}
+use native.Mathlib.Omega.{arith}
+use borrow.Author.Rules.{rules}
+use Rattle.shake.proofs.add_byte.Goals as goal
+
+pub returns : goal.returns
+unfolding add_byte
+returns c =
+    let a = c.args in
+    let shifted : a.b * 2 ^ (8 * (a.p % 8)) % 2 ^ 64 ≡ a.b * 2 ^ (8 * (a.p % 8)) = shl_exact {a = a.b} 8 (8 * (a.p % 8)) 64 (search rules) (omega arith) in
+    rw shifted
