@@ -181,7 +181,7 @@ fn sum<const L: usize>(a: &[Matrix<L>], b: &[Matrix<L>]) -> Vec<Matrix<L>> {
     a.iter().zip(b).map(|(a, b)| *a + *b).collect()
 }
 
-/// publicMap at U is centralMap at the private change of U, and the change undoes itself.
+/// public_map at U is central_map at the private change of U, and the change undoes itself.
 fn composition<const L: usize>(prng: &mut Prng, place: &str) {
     let world = World::<L>::random(prng);
     let u: Vec<Matrix<L>> = (0..world.set.n()).map(|_| random_matrix(prng)).collect();
