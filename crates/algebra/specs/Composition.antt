@@ -6,7 +6,7 @@ use Rattle.algebra.specs.Ring.{Ring, zero-add, mul-zero, zero-mul, add_left_comm
 use Rattle.algebra.specs.Sum.{sum, sum-cong, mul-sum, sum-mul}
 use Rattle.algebra.specs.Map.{value, value-quad, quad, quad-cong, quad-zero, quad-split, quad-add-left, quad-add-mid, quad-add-right, quad-move-left, quad-move-right}
 
--- F11 = P11, F12 = P12 + P11-as-T12, F21 = P21 + T12ᵗ-as-P11, F22 = 0, P22 = T12ᵗ-as-F12 + P21-as-T12, for one matrix.
+-- F11 = P11, F12 = P12 + P11·T12, F21 = P21 + T12ᵗ·P11, F22 = 0, P22 = T12ᵗ·F12 + P21·T12, for one matrix.
 -- The transpose is over blocks and entries: block (k, a) of T12ᵗ is the transpose of T a k.
 module _ {A : Type 0} (𝟘 : A) (◌⊕◌ ◌⊗◌ : A → A → A) (tr : A → A) where
   infixl 60 ◌⊕◌
@@ -39,7 +39,7 @@ module _ {A : Type 0} {𝟘 : A} {◌⊕◌ ◌⊗◌ : A → A → A} {tr : A �
           let same : sum 𝟘 ◌⊕◌ o (λ k. T j k ⊗ X (v + k)) ≡ sum 𝟘 ◌⊕◌ o (λ k. T j k ⊗ U (v + k)) = sum-cong R o (λ k l. ap (λ x. T j k ⊗ x) (C.oil k l)) in
           rw (C.vinegar j h, same) (simp (R.add_assoc, R.add-self, R.add-zero))
 
-  -- Without Q1 and Q2. O is the oil of U, and W = T12-as-O is what the change adds to its vinegar. Each block of F at X and P22 at O
+  -- Without Q1 and Q2. O is the oil of U, and W = T12·O is what the change adds to its vinegar. Each block of F at X and P22 at O
   -- is written by blocks of P, F12, U, W and O; then what stands twice cancels.
   quad-composition : {v o : ℕ} {T P F : ℕ → ℕ → A} {U X : ℕ → A} → Keys 𝟘 ◌⊕◌ ◌⊗◌ tr v o T P F → Change 𝟘 ◌⊕◌ ◌⊗◌ v o T U X
       → quad 𝟘 ◌⊕◌ ◌⊗◌ tr (v + o) (v + o) U P U ≡ quad 𝟘 ◌⊕◌ ◌⊗◌ tr (v + o) (v + o) X F X

@@ -50,7 +50,7 @@ pub record SixteenFacts : Type 0 where
   -- set (1,1,2), public stream 01 10 00 00 00 00, private stream 15: key bytes C8 3C
   pub key-bytes : key_of (set_of 1 1 2) (0x01 ∷ 0x10 ∷ 0x00 ∷ 0x00 ∷ 0x00 ∷ 0x00 ∷ []) (0x15 ∷ []) ≡ 0xC8 ∷ 0x3C ∷ []
 
--- S to the 2 is S-as-S
+-- S to the 2 is S·S
 squared : (l : ℕ) → 0 < l → power_s l 2 ≡ mul_m l (S l) (S l)
 unfolding power
 squared l some = ap (mul_m l (S l)) (power-one (matrices l) (S-base l some))

@@ -59,7 +59,7 @@ module _ (set : Set) (public private : List ℕ) (zeros : (e : ℕ) → e < publ
   public-block b h = zero-blocks set.l (public_blocks set) public (λ e he. zeros e (omega arith)) b h
 
   module _ {i j k : ℕ} (hi : i < set.o) (hj : j < set.v) (hk : k < set.o) where
-    -- F12 = P12 + P11-as-T12 and F21 = P21 + T12ᵗ-as-P11 are zero
+    -- F12 = P12 + P11·T12 and F21 = P21 + T12ᵗ·P11 are zero
 
     F12-zero : Nought set.l (F12 set public private i j k)
     unfolding F12 P11 P12

@@ -1,4 +1,4 @@
-// Algorithm 2: a matrix with nonzero determinant stays; otherwise M + typeof.a.S for the first a from 1 to 15 that gives a nonzero determinant, always from the original M.
+// Algorithm 2: a matrix with nonzero determinant stays; otherwise M + a·S for the first a from 1 to 15 that gives a nonzero determinant, always from the original M.
 ghost use Rattle.std.specs.Prelude.{◌≡◌, ◌≤◌, ◌<◌};
 ghost use Rattle.ground.specs.Pick.{pick};
 ghost use Rattle.matrix.specs.Block.{view, block, stride};
@@ -24,7 +24,7 @@ pub fn refused(answer: Answer) -> Made
     }
 }
 
-// m + typeof.a.S.
+// m + a·S.
 pub fn shifted(l: usize, m: Block, a: u8) -> Block
     requires { l ≤ stride }
     ensures { result ≡ block l (shift l (view m) a) }
@@ -32,7 +32,7 @@ pub fn shifted(l: usize, m: Block, a: u8) -> Block
     plus(l, m, scaled(l, a, s_matrix(l)))
 }
 
-// One try of the search: the original matrix, the shift a, and the original plus typeof.a.S.
+// One try of the search: the original matrix, the shift a, and the original plus a·S.
 #[derive(Clone, Copy)]
 pub struct Trial {
     original: Block,

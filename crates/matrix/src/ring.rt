@@ -83,7 +83,7 @@ pub fn coefficient(l: usize, a: [u8; STRIDE], k: usize) -> u8
     last_coefficient(own, a[0])
 }
 
-// Algorithm 1: typeof.a0.I + typeof.a1.S + .. + a(l-1)·S^(l-1), at those coefficients.
+// Algorithm 1: a0·I + a1·S + .. + a(l-1)·S^(l-1), at those coefficients.
 pub fn combination(l: usize, a: [u8; STRIDE]) -> Block
     requires { (0 < l) × ((l ≤ stride) × (get_or a 0 0 < 16)) }
     ensures { result ≡ block l (algorithm1 l (coefficients a)) }

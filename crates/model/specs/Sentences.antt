@@ -119,7 +119,7 @@ pub record SignatureHolds (set : Set) (public abq private vinegar target salt si
   pub elements : List ℕ
   pub bytes : signature ≡ packed elements ++ salt
 
--- 2. Field and matrices are those of the document. The key that is written with 0 holds P22 = T12ᵗ-as-F12 + P21-as-T12. The verdict is 0 exactly where nothing is refused and
+-- 2. Field and matrices are those of the document. The key that is written with 0 holds P22 = T12ᵗ·F12 + P21·T12. The verdict is 0 exactly where nothing is refused and
 -- every entry of every equation equals the target. What was packed is unpacked to the same elements.
 pub record Sentence2 : Type 0 where
   -- GF(16): sums are exclusive or, the powers of 2 are the page's, an inverse is one; the inverse of 0 is 0

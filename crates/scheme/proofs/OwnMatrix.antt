@@ -33,7 +33,7 @@ use Rattle.matrix.specs.Invertible.{invertible, shift, first_from, shift_of, can
 use Rattle.matrix.specs.InvertibleLaws.{algorithm2-same, can_be_invertible-same}
 use Rattle.matrix.specs.RingSteps.{algorithm1-cong}
 use Rattle.matrix.specs.Same.{Same, same_refl, same-sym, same-trans, same-equal, same-mul, same_sum}
-use Rattle.scheme.specs.Streams.{term_number, block_of, group_of, p11_number, P11, P22, a_number, bNumber, q1_number, q2_number, A, B, Q1, Q2, signature_of}
+use Rattle.scheme.specs.Streams.{term_number, block_of, group_of, p11_number, P11, P22, a_number, b_number, q1_number, q2_number, A, B, Q1, Q2, signature_of}
 use Rattle.scheme.specs.Maps.{sum_m, equation, matrix_index, PWith, public_map_with, public_map, all_invertible}
 use Rattle.scheme.specs.Parts.{parts-11}
 use Rattle.scheme.specs.Entries.{value_same}
@@ -147,8 +147,8 @@ module _ (set : Set) (h : Limits set) (many : 1 < set.o) where
     B-is : (α : ℕ) → Same set.l (B set (abq x) 0 α) (algorithm2 set.l (corner 0))
     unfolding B
     B-is α =
-        let other : bNumber set 0 α ≢ 1 = λ e. omega (arith, all-some) in
-        algorithm2-same (same-trans (block-is (bNumber set 0 α)) (same-equal (ap (λ t. corner (pick t x 0)) (ne_eqb _ _ other))))
+        let other : b_number set 0 α ≢ 1 = λ e. omega (arith, all-some) in
+        algorithm2-same (same-trans (block-is (b_number set 0 α)) (same-equal (ap (λ t. corner (pick t x 0)) (ne_eqb _ _ other))))
 
     groups : (g : ℕ) → 2 * all_terms set * set.l ≤ g → algorithm1 set.l (group_of set.l (abq x) g) ≡ zero_q set.l
     unfolding group_of

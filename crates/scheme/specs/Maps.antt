@@ -33,16 +33,16 @@ module _ (set : Set) where
   unfoldable pub matrix_index : ℕ → ℕ → ℕ
   matrix_index i alpha = (i + alpha) % set.o
 
-  -- F12 = P12 + P11-as-T12
+  -- F12 = P12 + P11·T12
   unfoldable pub F12 : (public private : List ℕ) → ℕ → ℕ → ℕ → Matrix
   F12 public private i j k = add_m (P12 set public i j k) (sum_m set.v (λ a. mul_m set.l (P11 set public i j a) (T12 set private a k)))
 
-  -- F21 = P21 + T12ᵗ-as-P11, the transpose over blocks and entries
+  -- F21 = P21 + T12ᵗ·P11, the transpose over blocks and entries
   unfoldable pub F21 : (public private : List ℕ) → ℕ → ℕ → ℕ → Matrix
   F21 public private i k j =
       add_m (P21 set public i k j) (sum_m set.v (λ a. mul_m set.l (transpose (T12 set private a k)) (P11 set public i a j)))
 
-  -- P22 = T12ᵗ-as-F12 + P21-as-T12
+  -- P22 = T12ᵗ·F12 + P21·T12
   unfoldable pub key_p22 : (public private : List ℕ) → ℕ → ℕ → ℕ → Matrix
   key_p22 public private i j k =
       add_m (sum_m set.v (λ a. mul_m set.l (transpose (T12 set private a j)) (F12 public private i a k)))

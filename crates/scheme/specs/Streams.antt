@@ -52,8 +52,8 @@ module _ (set : Set) where
   abbrev pub a_number : ℕ → ℕ → ℕ
   a_number i alpha = term_number i alpha
 
-  abbrev pub bNumber : ℕ → ℕ → ℕ
-  bNumber i alpha = all_terms set + term_number i alpha
+  abbrev pub b_number : ℕ → ℕ → ℕ
+  b_number i alpha = all_terms set + term_number i alpha
 
   abbrev pub q1_number : ℕ → ℕ → ℕ
   q1_number i alpha = 2 * all_terms set * set.l + term_number i alpha
@@ -65,7 +65,7 @@ module _ (set : Set) where
   A abq i alpha = algorithm2 set.l (block_of set.l abq (a_number i alpha))
 
   unfoldable pub B : List ℕ → ℕ → ℕ → Matrix
-  B abq i alpha = algorithm2 set.l (block_of set.l abq (bNumber i alpha))
+  B abq i alpha = algorithm2 set.l (block_of set.l abq (b_number i alpha))
 
   unfoldable pub Q1 : List ℕ → ℕ → ℕ → Matrix
   Q1 abq i alpha = algorithm1 set.l (group_of set.l abq (q1_number i alpha))

@@ -13,7 +13,7 @@ use Rattle.matrix.specs.Block.{block, stride}
 use Rattle.matrix.specs.Invertible.{algorithm2, can_be_invertible}
 use Rattle.matrix.specs.Promises.{Makes}
 use Rattle.matrix.specs.declared.Made.{Made}
-use Rattle.scheme.specs.Streams.{block_of, a_number, bNumber, A, B}
+use Rattle.scheme.specs.Streams.{block_of, a_number, b_number, A, B}
 use Rattle.scheme.specs.Maps.{matrix_index, all_invertible}
 use Rattle.scheme.specs.Regroup.{q1_of, q2_of}
 use Rattle.streams.specs.declared.Term.{Term}
@@ -55,7 +55,7 @@ module _ {set : Set} {i alpha : ℕ} (t : TermPlace set i alpha) (abq : List ℕ
   a-is {n} e m = made-is set abq n lent.invertible (omega (arith, a-within t)) m ∙ ap (λ n. block set.l (algorithm2 set.l (block_of set.l abq n))) e
 
   -- and the one with B's
-  pub b-is : {n : ℕ} {r : Made} → n ≡ bNumber set i alpha
+  pub b-is : {n : ℕ} {r : Made} → n ≡ b_number set i alpha
       → Makes (pick (passes set.l abq n) 0 21) (block set.l (algorithm2 set.l (block_of set.l abq n))) r → r.block ≡ block set.l (B set abq i alpha)
   unfolding B
   b-is {n} e m = made-is set abq n lent.invertible (omega (arith, b-within t)) m ∙ ap (λ n. block set.l (algorithm2 set.l (block_of set.l abq n))) e

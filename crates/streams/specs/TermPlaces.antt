@@ -9,7 +9,7 @@ use Rattle.sets.specs.declared.Set.{Set}
 use Rattle.sets.specs.Sets.{most_l, most_row, terms, all_terms, abq_count, abq_bytes}
 use Rattle.sets.specs.Bounds.{Limits, Bounds}
 use Rattle.matrix.specs.Limits.{size_allowed}
-use Rattle.scheme.specs.Streams.{term_number, a_number, bNumber, q1_number, q2_number}
+use Rattle.scheme.specs.Streams.{term_number, a_number, b_number, q1_number, q2_number}
 use Rattle.scheme.specs.Maps.{matrix_index}
 use Rattle.scheme.specs.Entries.{matrix_index-lt}
 
@@ -39,7 +39,7 @@ module _ {set : Set} {i alpha : ℕ} (t : TermPlace set i alpha) where
   pub a-within : a_number set i alpha < 2 * all_terms set
   a-within = omega (arith, a_lt)
 
-  pub b-within : bNumber set i alpha < 2 * all_terms set
+  pub b-within : b_number set i alpha < 2 * all_terms set
   b-within = omega (arith, a_lt)
 
   pub q1-within : q1_number set i alpha < 2 * all_terms set * set.l + 2 * all_terms set

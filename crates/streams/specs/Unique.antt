@@ -13,7 +13,7 @@ use Rattle.matrix.specs.Invertible.{algorithm2, can_be_invertible}
 use Rattle.matrix.specs.Promises.{Makes}
 use Rattle.matrix.specs.Unique.{unique-makes}
 use Rattle.matrix.specs.declared.Made.{Made}
-use Rattle.scheme.specs.Streams.{block_of, group_of, a_number, bNumber, q1_number, q2_number}
+use Rattle.scheme.specs.Streams.{block_of, group_of, a_number, b_number, q1_number, q2_number}
 use Rattle.scheme.specs.Maps.{matrix_index}
 use Rattle.streams.specs.declared.Term.{Term}
 use Rattle.streams.specs.Numbers.{Starts}
@@ -39,7 +39,7 @@ unique-matrix-index set i alpha = unique-equation
 pub unique-a-number : (set : Set) (i alpha : ℕ) {r r' : ℕ} → r ≡ a_number set i alpha → r' ≡ a_number set i alpha → r ≡ r'
 unique-a-number set i alpha = unique-equation
 
-pub unique-b-number : (set : Set) (i alpha : ℕ) {r r' : ℕ} → r ≡ bNumber set i alpha → r' ≡ bNumber set i alpha → r ≡ r'
+pub unique-b-number : (set : Set) (i alpha : ℕ) {r r' : ℕ} → r ≡ b_number set i alpha → r' ≡ b_number set i alpha → r ≡ r'
 unique-b-number set i alpha = unique-equation
 
 pub unique-q1-number : (set : Set) (i alpha : ℕ) {r r' : ℕ} → r ≡ q1_number set i alpha → r' ≡ q1_number set i alpha → r ≡ r'

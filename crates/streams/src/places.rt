@@ -1,6 +1,6 @@
 // Where the parts of term (i, alpha) stand: the numbers of its blocks and groups in the ABQ stream, and the index of its public matrix.
 ghost use Rattle.std.specs.Prelude.{◌≡◌};
-ghost use Rattle.scheme.specs.Streams.{a_number, bNumber, q1_number, q2_number};
+ghost use Rattle.scheme.specs.Streams.{a_number, b_number, q1_number, q2_number};
 ghost use Rattle.scheme.specs.Maps.{matrix_index};
 ghost use Rattle.streams.specs.TermPlaces.{TermPlace};
 
@@ -17,7 +17,7 @@ pub fn a_number(set: Set, i: usize, alpha: usize) -> usize
 // The block number of B: all B stand behind all A.
 pub fn b_number(set: Set, i: usize, alpha: usize) -> usize
     requires { TermPlace set i alpha }
-    ensures { result ≡ bNumber set i alpha }
+    ensures { result ≡ b_number set i alpha }
 {
     sets::all_terms(set) + a_number(set, i, alpha)
 }

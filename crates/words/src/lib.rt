@@ -46,7 +46,7 @@ pub fn multiply(table: &mut [u64], src: &[u8], n: usize, count: usize)
     }
 }
 
-// The sum, over x below count, of row first + x·stride times scalars[place + typeof.x.step]: each product is two look-ups.
+// The sum, over x below count, of row first + x·stride times scalars[place + x·step]: each product is two look-ups.
 fn looked_up(
     table: &[u64],
     first: usize,
