@@ -51,17 +51,17 @@ module _ (l : ℕ) {r c : ℕ} (hr : r < l) (hc : c < l) where
 
 module _ (set : Set) (public x : List ℕ) where
   -- row y of the sums with P11: of block row u, the sum over j of P11(i', u, j) · (S^b·X_j)
-  abbrev pub yRow : ℕ → ℕ → ℕ → ℕ
-  yRow i = products_row set.l public (p11_number set i 0 0) set.v x (set.l * set.l)
+  abbrev pub y_row : ℕ → ℕ → ℕ → ℕ
+  y_row i = products_row set.l public (p11_number set i 0 0) set.v x (set.l * set.l)
 
   -- row y of the power sums of matrix index i'
   abbrev pub sums_row : ℕ → ℕ → ℕ → ℕ
-  sums_row i = transposed_gain x 0 (set.l * set.l) (set.v * set.l) (yRow i)
+  sums_row i = transposed_gain x 0 (set.l * set.l) (set.v * set.l) (y_row i)
 
   abbrev pub right_row : List ℕ → ℕ → ℕ → ℕ → ℕ
   right_row t i y z =
       add (products_row set.l public (p21_number set i 0 0) set.v x (set.l * set.l) y z)
-      (transposed_gain t 0 (set.o * set.l) (set.v * set.l) (yRow i) y z)
+      (transposed_gain t 0 (set.o * set.l) (set.v * set.l) (y_row i) y z)
 
   abbrev pub left_row : List ℕ → ℕ → ℕ → ℕ → ℕ
   left_row t i y z =
@@ -91,7 +91,7 @@ module _ (set : Set) (public x : List ℕ) where
       (sum_m set.v (λ u. mul_m set.l (left_p11_from i u a) (tile set.l (set.o * set.l) t u k)))
 
   module _ (i : ℕ) {r c : ℕ} (hr : r < set.l) (hc : c < set.l) where
-    y-blocks : (u b : ℕ) → yRow i (u * set.l + r) (b * set.l + c) ≡ right_p11_from i u b r c
+    y-blocks : (u b : ℕ) → y_row i (u * set.l + r) (b * set.l + c) ≡ right_p11_from i u b r c
     unfolding right_p11_from P11
     y-blocks u b =
         products-blocks set.l hr hc public (p11_number set i 0 0) set.v x (set.l * set.l) u b
@@ -110,7 +110,7 @@ module _ (set : Set) (public x : List ℕ) where
   module _ (i : ℕ) {r c : ℕ} (hr : r < set.l) (hc : c < set.l) where
     pub sums-blocks : (a b : ℕ) → sums_row i (a * set.l + r) (b * set.l + c) ≡ sums_from i a b r c
     unfolding sums_from
-    sums-blocks a b = transposed-blocks set.l hr hc x (set.l * set.l) set.v (yRow i) a b (λ j. right_p11_from i j b) (λ j s hj hs. y-blocks i hs hc j b)
+    sums-blocks a b = transposed-blocks set.l hr hc x (set.l * set.l) set.v (y_row i) a b (λ j. right_p11_from i j b) (λ j s hj hs. y-blocks i hs hc j b)
 
     pub right-blocks : (t : List ℕ) (k b : ℕ) → right_row t i (k * set.l + r) (b * set.l + c) ≡ right_from t i k b r c
     unfolding right_from add_m P21
@@ -120,7 +120,7 @@ module _ (set : Set) (public x : List ℕ) where
         ∙ ap (λ M. M r c) (sum-cong (matrices set.l) set.v (λ j h.
         let number : p21_number set i 0 0 + k * set.v + j ≡ p21_number set i k j = omega arith in
         ap (λ p. mul_m set.l (block_of set.l public p) (tile set.l (set.l * set.l) x j b)) number)))
-        (transposed-blocks set.l hr hc t (set.o * set.l) set.v (yRow i) k b (λ u. right_p11_from i u b) (λ u s hu hs. y-blocks i hs hc u b))
+        (transposed-blocks set.l hr hc t (set.o * set.l) set.v (y_row i) k b (λ u. right_p11_from i u b) (λ u s hu hs. y-blocks i hs hc u b))
 
     pub left-row-blocks : (t : List ℕ) (a k : ℕ) → left_row t i (a * set.l + r) (k * set.l + c) ≡ left_from t i k a r c
     unfolding left_from add_m P12

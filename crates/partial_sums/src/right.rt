@@ -6,7 +6,7 @@ ghost use Rattle.words.specs.Multiples.{Multiples};
 ghost use Rattle.sets.specs.Bounds.{Bounds};
 ghost use Rattle.sets.specs.Sets.{public_bytes};
 ghost use Rattle.tables.specs.Sums.{HasRows};
-ghost use Rattle.partial_sums.specs.LeftRight.{yRow, right_row, sums_row};
+ghost use Rattle.partial_sums.specs.LeftRight.{y_row, right_row, sums_row};
 ghost use Rattle.partial_sums.specs.Filled.{RightHolds, SumsHold};
 
 use super::products::add_products;
@@ -21,7 +21,7 @@ fn load_products(y: &mut [u8], set: Set, i: usize, public: &[u8], multiples: &[u
     requires bounds { Bounds set × ((i < set.o) × (set.v * set.l * (set.l * set.l) ≤ length y.old)) }
     requires public_len { (length public.now ≡ public_bytes set) × (set.v * set.l * 8 ≤ length multiples.now) }
     ensures { (x : List ℕ) → Multiples (set.l * set.l) (set.v * set.l) x multiples.now
-        → HasRows (set.v * set.l) (set.l * set.l) (yRow set public.now x i) y.new }
+        → HasRows (set.v * set.l) (set.l * set.l) (y_row set public.now x i) y.new }
 {
     let v = set.v;
     let l = set.l;
@@ -45,7 +45,7 @@ fn add_right_index(
     requires public_len { (length public.now ≡ public_bytes set) × ((set.v * set.l * 8 ≤ length multiples.now) × (set.v * set.l * (set.o * set.l) ≤ length t.now)) }
     requires l_in_bounds { set.v * set.l * (set.l * set.l) ≤ length y.now }
     ensures { (x : List ℕ) → Multiples (set.l * set.l) (set.v * set.l) x multiples.now
-        → HasRows (set.v * set.l) (set.l * set.l) (yRow set public.now x i) y.now
+        → HasRows (set.v * set.l) (set.l * set.l) (y_row set public.now x i) y.now
         → PlusRows right.old at (set.o * set.l) (set.l * set.l) (right_row set public.now x t.now i) right.new }
 {
     let v = set.v;

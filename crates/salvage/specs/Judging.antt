@@ -10,10 +10,10 @@ use Rattle.blocks.specs.Block.{head_of, part_of, block_at, IsBlock, checked, for
 use Rattle.blocks.specs.Turn.{start, in_turn, fault_of}
 use Rattle.books.specs.Book.{whole}
 use Rattle.books.specs.Salvage.{judged, blocks_of}
-use Rattle.books.specs.Salvage.{Judged as Salvage-as-Judged}
+use Rattle.books.specs.Salvage.{Judged as BlockJudged}
 
 -- the faults of blocks that are judged
-unfoldable pub faults : List Salvage-as-Judged → List ℕ
+unfoldable pub faults : List BlockJudged → List ℕ
 faults [] = []
 faults (j ∷ js) = j.number ∷ faults js
 

@@ -1,4 +1,4 @@
-// The C interface of everything: libsnova.a has these functions and no others. Each calls the function of a crate below and gives the page's number of its answer.
+// The functions of the C interface, of everything, as a library: snova_c exports them, and libsnova.a has them and no others. Each calls the function of a crate below and gives the page's number of its answer.
 // `interface` has page 01's operations, `length_calls` the lengths of their buffers, `response_files` page 02's reader, `book_calls` its exercise books. What the numbers returned promise is in specs/InNumbers.antt.
 #![tactic(auto)]
 

@@ -1,4 +1,4 @@
-// The C functions of response files (page 02, Req 01): each by the page's number, over lent buffers.
+// The functions of response files for the C interface (page 02, Req 01): each by the page's number, over lent buffers.
 ghost use Rattle.std.specs.Prelude.{◌≡◌};
 ghost use Rattle.response_format.specs.Rules.{refusal_of};
 ghost use Rattle.snova.specs.Responses.{DecodeHex};
