@@ -6,6 +6,7 @@ use Rattle.std.proofs.Math.Logic.{⊎_elim}
 use Rattle.std.proofs.Math.Decide.{ℕ_discrete}
 use Rattle.ground.specs.Pick.{both, both_left, both_right, both_true}
 use Rattle.ground.specs.Answers.{Rule, unless, first, met-none, met-more, first-met}
+use Rattle.ground.specs.declared.Refusal.TheVariants.{BlockCheck, BlockForm, BlockOutOfTurn}
 use Rattle.ground.specs.First.{first_passes}
 use Rattle.blocks.specs.declared.Head.{Head}
 use Rattle.blocks.specs.Block.{checked, formed, head_of}
@@ -31,7 +32,7 @@ start = record { exercise = 0; kind = 0; part = 0 }
 
 -- the faults of the block at a place, after a block with the head `before`
 abbrev pub fault_rules : ℕ → Head → List ℕ → List Rule
-fault_rules place before s = unless 41 (checked place s) ∷ unless 42 (formed s) ∷ unless 43 (in_turn before (head_of s)) ∷ []
+fault_rules place before s = unless BlockCheck (checked place s) ∷ unless BlockForm (formed s) ∷ unless BlockOutOfTurn (in_turn before (head_of s)) ∷ []
 
 unfoldable pub fault_of : ℕ → Head → List ℕ → ℕ
 fault_of place before s = first (fault_rules place before s)
@@ -107,9 +108,9 @@ pub no-fault : (place : ℕ) (before : Head) (s : List ℕ) → fault_of place b
     → (checked place s ≡ true) × ((formed s ≡ true) × (in_turn before (head_of s) ≡ true))
 unfolding fault_of
 no-fault place before s e =
-    let a = first_passes 41 (checked place s) (unless 42 (formed s) ∷ unless 43 (in_turn before (head_of s)) ∷ []) (omega arith) e in
-    let b = first_passes 42 (formed s) (unless 43 (in_turn before (head_of s)) ∷ []) (omega arith) a.1 in
-    let c = first_passes 43 (in_turn before (head_of s)) [] (omega arith) b.1 in
+    let a = first_passes BlockCheck (checked place s) (unless BlockForm (formed s) ∷ unless BlockOutOfTurn (in_turn before (head_of s)) ∷ []) e in
+    let b = first_passes BlockForm (formed s) (unless BlockOutOfTurn (in_turn before (head_of s)) ∷ []) a.1 in
+    let c = first_passes BlockOutOfTurn (in_turn before (head_of s)) [] b.1 in
     (a.0, (b.0, c.0))
 
 pub fault-none : (place : ℕ) (before : Head) (s : List ℕ) → checked place s ≡ true → formed s ≡ true → in_turn before (head_of s) ≡ true → fault_of place before s ≡ 0

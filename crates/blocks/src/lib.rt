@@ -6,7 +6,7 @@ mod block;
 mod making;
 mod turn;
 
-pub use block::{block_at, both, head_of, size_of};
+pub use block::{block_at, head_of, size_of};
 pub use making::{fill, put};
 pub use turn::fault_of;
 
@@ -17,3 +17,10 @@ pub struct Head {
     pub kind: u8,
     pub part: u16,
 }
+
+// What stands before the first block: of kind 0, so that every block of part 0 is in turn after it, and no other.
+pub const START: Head = Head {
+    exercise: 0,
+    kind: 0,
+    part: 0,
+};

@@ -1,7 +1,7 @@
 // A block is made of its head, its payload and its place: the opening, the payload with its padding, then the check.
 ghost use Rattle.std.specs.Prelude.{◌≡◌, ◌+◌, ◌≤◌, length, slice_index};
 ghost use Rattle.ground.specs.Segment.{Segment};
-ghost use Rattle.blocks.specs.Block.{block_of, four};
+ghost use Rattle.blocks.specs.Block.{block_of};
 ghost use Rattle.blocks.specs.Made.{opening_of, part_with};
 
 use crate::Head;
@@ -12,37 +12,19 @@ fn opening(head: Head, size: usize) -> [u8; 8]
     requires { size ≤ 500 }
     ensures { result ≡ opening_of head size }
 {
-    let e = head.exercise;
-    let p = head.part;
+    let exercise = head.exercise.to_le_bytes();
+    let part = head.part.to_le_bytes();
+    let length = (size as u16).to_le_bytes();
     [
-        (e % 256) as u8,
-        (e / 256) as u8,
+        exercise[0],
+        exercise[1],
         head.kind,
         0,
-        (p % 256) as u8,
-        (p / 256) as u8,
-        (size % 256) as u8,
-        (size / 256) as u8,
+        part[0],
+        part[1],
+        length[0],
+        length[1],
     ]
-}
-
-// A word's four bytes.
-fn bytes_of(w: u32) -> [u8; 4]
-    ensures { result ≡ four w }
-{
-    [
-        (w % 256) as u8,
-        (w / 256 % 256) as u8,
-        (w / 65536 % 256) as u8,
-        (w / 16777216) as u8,
-    ]
-}
-
-// Byte k, or zero past the end.
-fn byte_at(src: &[u8], k: usize) -> u8
-    ensures { result ≡ slice_index src.now k }
-{
-    if k < src.len() { src[k] } else { 0 }
 }
 
 // The n bytes from byte `at` on become those of src, and zeros past its end.
@@ -50,11 +32,9 @@ pub fn put(block: &mut [u8], at: usize, n: usize, src: &[u8])
     requires { at + n ≤ length block.old }
     ensures { Segment block.old at n (λ k. slice_index src.now k) block.new }
 {
-    let mut k = 0;
-    while k < n {
-        block[at + k] = byte_at(src, k);
-        k += 1;
-    }
+    let m = n.min(src.len());
+    block[at..at + m].copy_from_slice(&src[..m]);
+    block[at + m..at + n].fill(0);
 }
 
 // The block of a part at a place.
@@ -65,6 +45,6 @@ pub fn fill(block: &mut [u8], head: Head, payload: &[u8], place: u32)
     let first = opening(head, payload.len());
     put(block, 0, 8, &first);
     put(block, 8, 500, payload);
-    let check = bytes_of(check_of(block, place));
-    put(block, 508, 4, &check);
+    let check = check_of(block, place);
+    put(block, 508, 4, &check.to_le_bytes());
 }

@@ -1,6 +1,6 @@
 -- A part of the caller's book, total: the payload of a block, or the empty end; and one step of the loops over a field's parts.
 -- Rests on books' Cursor.
-use Rattle.std.specs.Prelude.{◌≡◌, refl, true, false, List, [], ◌∷◌, ◌++◌, ℕ, ◌+◌, ◌-◌, ◌*◌, ◌/◌, ◌<◌, ◌≤◌, min, leb, take, drop}
+use Rattle.std.specs.Prelude.{Some, None, ◌≡◌, refl, true, false, List, [], ◌∷◌, ◌++◌, ℕ, ◌+◌, ◌-◌, ◌*◌, ◌/◌, ◌<◌, ◌≤◌, min, leb, take, drop}
 use Rattle.std.proofs.Math.Path.{sym, ap}
 use Rattle.std.proofs.Common.{subst, ◌∙◌, length-append, length-take, length-drop, ext_get_or, le-leb}
 use Rattle.std.proofs.Math.Decide.{dec_lt}
@@ -13,7 +13,7 @@ use Rattle.ground.specs.Paste.{Pasted, length-pasted, pasted-none, pasted-then, 
 use Rattle.blocks.specs.declared.Head.{Head}
 use Rattle.blocks.specs.Block.{head_of, size_of, payload_of, block_at, IsBlock, Part}
 use Rattle.blocks.specs.Steps.{length-block-at}
-use Rattle.books.specs.declared.Next.TheVariants.{Field, End}
+use Rattle.books.specs.declared.FieldAt.{FieldAt}
 use Rattle.books.specs.Book.{book_parts, at_block, at-end}
 use Rattle.books.specs.Fields.{continues}
 use Rattle.books.specs.Cursor.{run, run_bytes, bytes_of, field_at, bytes_at}
@@ -135,7 +135,7 @@ run_small {s} {b} {first} {size} {i} {x} r t e =
     (omega (arith, n.bound, n.low, n.high), l)
 
 pub run_end : {s x : List ℕ} {b first size i : ℕ} {h : Head} → Run s b first size i → b < length s / 512 → false ≡ continues (drop i (book_parts s)) → IsBlock s b x → h ≡ head_of x
-    → first ≡ length (part_at s b) → Field h.exercise h.kind size i ≡ field_at s b
+    → first ≡ length (part_at s b) → Some (record { exercise = h.exercise; kind = h.kind; size = size; after = i }) ≡ field_at s b
 unfolding field_at
 run_end {s} {x} {b} {first} {size} {i} {h} r l t is_Block eh ef =
     let e : h ≡ head_of (block_at b s) = eh ∙ ap head_of is_Block.is in
@@ -147,7 +147,7 @@ run_end {s} {x} {b} {first} {size} {i} {h} r l t is_Block eh ef =
     let blocks : i ≡ b + 1 + run (drop (b + 1) (book_parts s)) = omega (arith, stop.1, r.blocks) in
     rw (at_block s b l, e, bytes, blocks)
 
-pub end-at : (s : List ℕ) (b : ℕ) → length s / 512 ≤ b → End ≡ field_at s b
+pub end-at : (s : List ℕ) (b : ℕ) → length s / 512 ≤ b → None ≡ field_at s b
 unfolding field_at
 end-at s b l = rw (at-end s b l)
 

@@ -1,14 +1,15 @@
 -- What the functions of the reader promise that write into a lent buffer: a field's numbers, and its bytes. The reader's refusals come first, then 20.
 -- Rests on books' Cursor.
-use Rattle.std.specs.Prelude.{◌≡◌, List, [], ◌∷◌, ℕ, ◌/◌, ◌≤◌, eqb, length, drop, set}
+use Rattle.std.specs.Prelude.{◌≡◌, Option, Some, None, Result, List, [], ◌∷◌, ℕ, ◌/◌, ◌≤◌, eqb, length, drop, set}
 use Rattle.std.proofs.Math.Path.{refl, sym, ap}
 use Rattle.std.proofs.Common.{◌∙◌, arith, drop_of_length-le, eq-eqb, ne_eqb}
 use Rattle.ground.specs.Pick.{pick}
-use Rattle.ground.specs.Answers.{answer_of}
+use Rattle.ground.specs.Answers.{Answer, numbered, number_of as answer_number}
+use Rattle.ground.specs.declared.Refusal.{Refusal}
 use Rattle.ground.specs.Outcome.{Writes}
-use Rattle.ground.specs.declared.Answer.{Answer}
-use Rattle.books.specs.declared.Next.{Next}
-use Rattle.books.specs.declared.Next.TheVariants.{Field, End}
+use Rattle.books.specs.declared.FieldAt.{FieldAt}
+use Rattle.book_reader.specs.declared.Next.{Next}
+use Rattle.book_reader.specs.declared.Next.TheVariants.{Field, End}
 use Rattle.blocks.specs.Block.{Part}
 use Rattle.books.specs.Book.{or_else, read_number, parts, book_parts, length-parts}
 use Rattle.books.specs.Cursor.{next_of, bytes_of, field_at, bytes_at, size-told}
@@ -22,18 +23,27 @@ unfoldable pub payload_refusal : List ℕ → ℕ → List ℕ → ℕ
 payload_refusal s b output = or_else (read_number s) (copy_refusal s b output)
 
 -- what the cursor hands out as a number: 0 a field, 1 none
-abbrev pub number_of : Next → ℕ
-number_of (Field e k size after) = 0
-number_of End = 1
+abbrev pub number_of : Option FieldAt → ℕ
+number_of (Some f) = 0
+number_of None = 1
 
 -- a field's exercise, kind, size and the block after it, as a list
-abbrev pub numbers_of : Next → List ℕ
-numbers_of (Field e k size after) = e ∷ k ∷ size ∷ after ∷ []
-numbers_of End = []
+abbrev pub numbers_of : Option FieldAt → List ℕ
+numbers_of (Some f) = f.exercise ∷ f.kind ∷ f.size ∷ f.after ∷ []
+numbers_of None = []
 
 -- the reader's refusals, then 20 where there is not room for four numbers, then 1 where there is no further field
 unfoldable pub field_number : List ℕ → ℕ → List ℕ → ℕ
 field_number s b numbers = or_else (read_number s) (pick (eqb (length numbers) 4) (number_of (field_at s b)) 20)
+
+-- the page's number of a field and of none
+abbrev pub number_of_next : Next → ℕ
+number_of_next Field = 0
+number_of_next End = 1
+
+-- and of what the cursor tells
+abbrev pub next_number : Result Next Refusal → ℕ
+next_number = numbered number_of_next
 
 -- What is promised of the number answered and of the lent numbers, before and after.
 pub record Tells (s : List ℕ) (b : ℕ) (before : List ℕ) (n : ℕ) (after : List ℕ) : Type 0 where
@@ -68,21 +78,21 @@ module _ (s : List ℕ) (b : ℕ) (before : List ℕ) where
   unfolding field_number
   tells-20 e z l = record { answer = sym (read-passed s _ e z ∙ rw (ne_eqb (length before) 4 l)); told = λ h. absurd (omega arith); kept = λ h. refl }
 
-  pub tells_none : {n : ℕ} → n ≡ read_number s → n ≡ 0 → length before ≡ 4 → field_at s b ≡ End → Tells s b before 1 before
+  pub tells_none : {n : ℕ} → n ≡ read_number s → n ≡ 0 → length before ≡ 4 → field_at s b ≡ None → Tells s b before 1 before
   unfolding field_number
   tells_none e z l f = record { answer = sym (read-passed s _ e z ∙ rw (eq-eqb (length before) 4 l, f)); told = λ h. absurd (omega arith); kept = λ h. refl }
 
-  pub tells-field : {n e k size after : ℕ} {t : List ℕ} → n ≡ read_number s → n ≡ 0 → length before ≡ 4 → field_at s b ≡ Field e k size after → t ≡ e ∷ k ∷ size ∷ after ∷ []
+  pub tells-field : {n : ℕ} {f : FieldAt} {t : List ℕ} → n ≡ read_number s → n ≡ 0 → length before ≡ 4 → field_at s b ≡ Some f → t ≡ f.exercise ∷ f.kind ∷ f.size ∷ f.after ∷ []
       → Tells s b before 0 t
   unfolding field_number
   tells-field e z l f w = record { answer = sym (read-passed s _ e z ∙ rw (eq-eqb (length before) 4 l, f)); told = λ h. rw f w; kept = λ h. absurd (h refl) }
 
   -- the bytes, where the book is read first
-  pub payload-refused : {n : ℕ} {r : Answer} → n ≡ read_number s → (n ≡ 0 → ⊥) → r ≡ answer_of n → Writes (payload_refusal s b before) (bytes_at s b) before r before
+  pub payload-refused : {n : ℕ} {r : Answer} → n ≡ read_number s → (n ≡ 0 → ⊥) → answer_number r ≡ n → Writes (payload_refusal s b before) (bytes_at s b) before r before
   unfolding payload_refusal
   payload-refused {n} e z a =
       let is = read_first s (copy_refusal s b before) e z in
-      record { answer = a ∙ ap answer_of (sym is); refused = λ h. refl; done = λ h. absurd (z (sym is ∙ h)) }
+      record { answer = a ∙ sym is; refused = λ h. refl; done = λ h. absurd (z (sym is ∙ h)) }
 
   pub payload-passed : {n : ℕ} {r : Answer} {t : List ℕ} → n ≡ read_number s → n ≡ 0 → Writes (copy_refusal s b before) (bytes_at s b) before r t
       → Writes (payload_refusal s b before) (bytes_at s b) before r t
@@ -95,26 +105,26 @@ copied : (s : List ℕ) (b : ℕ) (output : List ℕ) → length output ≡ leng
 unfolding copy_refusal
 copied s b output e = rw (eq-eqb (length output) (length (bytes_at s b)) e)
 
-pub copy_done : (s : List ℕ) (b : ℕ) (before : List ℕ) {after : List ℕ} {r : Answer} → r ≡ answer_of 0 → length before ≡ length (bytes_at s b) → after ≡ bytes_at s b
+pub copy_done : (s : List ℕ) (b : ℕ) (before : List ℕ) {after : List ℕ} {r : Answer} → answer_number r ≡ 0 → length before ≡ length (bytes_at s b) → after ≡ bytes_at s b
     → Writes (copy_refusal s b before) (bytes_at s b) before r after
 copy_done s b before a e w =
     let none = copied s b before e in
-    record { answer = a ∙ ap answer_of (sym none); refused = λ n. absurd (n none); done = λ z. w }
+    record { answer = a ∙ sym none; refused = λ n. absurd (n none); done = λ z. w }
 
-pub copy-refused : (s : List ℕ) (b : ℕ) (output : List ℕ) {r : Answer} → r ≡ answer_of 20 → (length output ≡ length (bytes_at s b) → ⊥) → Writes (copy_refusal s b output) (bytes_at s b) output r output
+pub copy-refused : (s : List ℕ) (b : ℕ) (output : List ℕ) {r : Answer} → answer_number r ≡ 20 → (length output ≡ length (bytes_at s b) → ⊥) → Writes (copy_refusal s b output) (bytes_at s b) output r output
 unfolding copy_refusal
 copy-refused s b output a n =
     let other = ne_eqb (length output) (length (bytes_at s b)) n in
     record { answer = rw other a; refused = λ z. refl; done = λ z. absurd (let bad : ◌≡◌ {A = ℕ} 20 0 = rw other at z in omega arith) }
 
 -- the size that the cursor tells is the count of the bytes, none where there is no field
-pub size_none : (s : List ℕ) (b : ℕ) {next : Next} → next ≡ field_at s b → next ≡ End → 0 ≡ length (bytes_at s b)
+pub size_none : (s : List ℕ) (b : ℕ) {next : Option FieldAt} → next ≡ field_at s b → next ≡ None → 0 ≡ length (bytes_at s b)
 unfolding field_at bytes_at
 size_none s b {next} p q = by (drop b (book_parts s)) (sym p ∙ q)
   where
-    by : (ps : List Part) → next_of b ps ≡ End → 0 ≡ length (bytes_of ps)
+    by : (ps : List Part) → next_of b ps ≡ None → 0 ≡ length (bytes_of ps)
     by [] h = refl
-    by (x ∷ ps) h = let z : ◌≡◌ {A = ℕ} 0 1 = cc in absurd (omega arith)
+    by (x ∷ ps) h = cc
 
 -- no block, no bytes
 pub bytes-none : (s : List ℕ) (b : ℕ) {output : List ℕ} → length s / 512 ≤ b → length output ≡ length (bytes_at s b) → output ≡ bytes_at s b
@@ -127,5 +137,5 @@ bytes-none s b {output} l e =
     empty [] h = refl
     empty (y ∷ x) h = absurd (omega arith)
 
-pub size-at : (s : List ℕ) (b : ℕ) {e k size after : ℕ} {next : Next} → next ≡ field_at s b → next ≡ Field e k size after → size ≡ length (bytes_at s b)
+pub size-at : (s : List ℕ) (b : ℕ) {f : FieldAt} {next : Option FieldAt} → next ≡ field_at s b → next ≡ Some f → f.size ≡ length (bytes_at s b)
 size-at s b p q = size-told s b (sym p ∙ q)

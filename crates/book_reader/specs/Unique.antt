@@ -1,25 +1,25 @@
 -- No second outcome meets the reader's contracts: the answer, the part's place and contents, and every lent buffer at exit.
 -- Rests on ground's Outcome and on Told.
-use Rattle.std.specs.Prelude.{◌≡◌, List, ℕ, ◌+◌}
+use Rattle.std.specs.Prelude.{◌≡◌, Option, List, ℕ, ◌+◌}
 use Rattle.std.proofs.Common.{sym, ◌∙◌}
 use Rattle.std.proofs.Math.Decide.{ℕ_discrete}
-use Rattle.ground.specs.Answers.{answer_of}
+use Rattle.ground.specs.Answers.{Answer, number_of}
+use Rattle.ground.specs.AnswerLaws.{unique-answer}
 use Rattle.ground.specs.Outcome.{Writes, unique-writes, unique-equation}
-use Rattle.ground.specs.declared.Answer.{Answer}
-use Rattle.books.specs.declared.Next.{Next}
+use Rattle.books.specs.declared.FieldAt.{FieldAt}
 use Rattle.books.specs.Book.{read_number}
 use Rattle.books.specs.Cursor.{field_at, bytes_at}
 use Rattle.book_reader.specs.Parts.{part_start, part_at}
 use Rattle.book_reader.specs.Told.{copy_refusal, payload_refusal, Tells}
 
 module _ (s : List ℕ) where
-  pub unique-read : {r r' : Answer} → r ≡ answer_of (read_number s) → r' ≡ answer_of (read_number s) → r ≡ r'
-  unique-read = unique-equation
+  pub unique-read : {r r' : Answer} → number_of r ≡ read_number s → number_of r' ≡ read_number s → r ≡ r'
+  unique-read = unique-answer
 
   pub unique-part : (b at : ℕ) {r r' : List ℕ} {p p' : ℕ} → r ≡ part_at s b → p ≡ at + part_start s b → r' ≡ part_at s b → p' ≡ at + part_start s b → (r ≡ r') × (p ≡ p')
   unique-part b at e f g h = (unique-equation e g, unique-equation f h)
 
-  pub unique-field-at : (b : ℕ) {r r' : Next} → r ≡ field_at s b → r' ≡ field_at s b → r ≡ r'
+  pub unique-field-at : (b : ℕ) {r r' : Option FieldAt} → r ≡ field_at s b → r' ≡ field_at s b → r ≡ r'
   unique-field-at b = unique-equation
 
   pub unique-copy-field : (b : ℕ) {before : List ℕ} {r r' : Answer} {after after' : List ℕ} → Writes (copy_refusal s b before) (bytes_at s b) before r after

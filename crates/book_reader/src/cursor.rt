@@ -8,15 +8,8 @@ ghost use Rattle.books.specs.Cursor.{field_at, bytes_at};
 ghost use Rattle.book_reader.specs.Parts.{part_start, part_at};
 ghost use Rattle.book_reader.specs.Told.{copy_refusal};
 
-use books::Next;
-use ground::Answer;
-
-// a, and b where a is more.
-fn at_most(a: usize, b: usize) -> usize
-    ensures { (result ≤ b) × (result ≡ min a b) }
-{
-    if a <= b { a } else { b }
-}
+use books::FieldAt;
+use ground::{Refusal, demand};
 
 // The payload of block b, or the book's empty end where there is no block b: place and contents.
 pub fn part(book: &[u8], b: usize) -> &[u8]
@@ -28,7 +21,7 @@ pub fn part(book: &[u8], b: usize) -> &[u8]
         return &book[n..];
     }
     let from = 512 * b + 8;
-    let to = from + at_most(blocks::size_of(blocks::block_at(book, b)), 504);
+    let to = from + blocks::size_of(blocks::block_at(book, b)).min(504);
     &book[from..to]
 }
 
@@ -43,28 +36,29 @@ fn goes_on(book: &[u8], b: usize) -> bool
     1 <= head.part
 }
 
-// The field that begins at block b, or End.
-pub fn field_at(book: &[u8], b: usize) -> Next
+// The field that begins at block b, if there is one.
+pub fn field_at(book: &[u8], b: usize) -> Option<FieldAt>
     ensures { result ≡ field_at book.now b }
 {
     if book.len() / 512 <= b {
-        return Next::End;
+        return None;
     }
     let head = blocks::head_of(blocks::block_at(book, b));
     let first = part(book, b);
     let mut size = first.len();
     let mut i = b + 1;
+    // `while`, since the blocks say where a field ends, and no count of them is known before: no plainer
     while goes_on(book, i) {
         let more = part(book, i);
         size += more.len();
         i += 1;
     }
-    Next::Field {
+    Some(FieldAt {
         exercise: head.exercise,
         kind: head.kind,
         size,
         after: i,
-    }
+    })
 }
 
 // The bytes go into the output from byte `at` on. The answer is the byte after them.
@@ -72,9 +66,9 @@ fn put_part(output: &mut [u8], at: usize, bytes: &[u8]) -> usize
     requires { at + length bytes.now ≤ length output.old }
     ensures { (result ≡ at + length bytes.now) × Pasted output.old at bytes.now output.new }
 {
-    let n = bytes.len();
-    blocks::put(output, at, n, bytes);
-    at + n
+    let end = at + bytes.len();
+    output[at..end].copy_from_slice(bytes);
+    end
 }
 
 // The parts of the field that begins at block b go into the output, which has their length.
@@ -87,6 +81,7 @@ fn copy_parts(book: &[u8], b: usize, output: &mut [u8])
     }
     let mut at = put_part(output, 0, part(book, b));
     let mut i = b + 1;
+    // `while`, as in field_at: the same walk, so that the same lemmas carry it
     while goes_on(book, i) {
         at = put_part(output, at, part(book, i));
         i += 1;
@@ -97,20 +92,18 @@ fn copy_parts(book: &[u8], b: usize, output: &mut [u8])
 fn field_size(book: &[u8], b: usize) -> usize
     ensures { result ≡ length (bytes_at book.now b) }
 {
-    let next = field_at(book, b);
-    match next {
-        Next::Field { size, .. } => size,
-        Next::End => 0,
+    match field_at(book, b) {
+        Some(field) => field.size,
+        None => 0,
     }
 }
 
 // The bytes of the field that begins at block b: 0, or 20 where the output has another length.
-pub fn copy_field(book: &[u8], b: usize, output: &mut [u8]) -> Answer
+#[tactic(auto, unfolding(crate::specs::Told::copy_refusal))]
+pub fn copy_field(book: &[u8], b: usize, output: &mut [u8]) -> Result<(), Refusal>
     ensures { Writes (copy_refusal book.now b output.old) (bytes_at book.now b) output.old result output.new }
 {
-    if output.len() != field_size(book, b) {
-        return ground::answer_of(20);
-    }
+    demand(output.len() == field_size(book, b), Refusal::OutputLength)?;
     copy_parts(book, b, output);
-    ground::answer_of(0)
+    Ok(())
 }

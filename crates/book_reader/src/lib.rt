@@ -9,3 +9,10 @@ mod reader;
 pub use cursor::{copy_field, field_at, part};
 pub use fields::{field, payload};
 pub use reader::{is_whole, read};
+
+// What the cursor tells of a block: a field, which is page 02's 0, or no further field, its 1.
+#[derive(Clone, Copy, Debug, PartialEq, Eq)]
+pub enum Next {
+    Field,
+    End,
+}

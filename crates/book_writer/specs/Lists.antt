@@ -3,11 +3,10 @@
 use Rattle.std.specs.Prelude.{◌≡◌, refl, Bool, true, false, List, [], ◌∷◌, ℕ, zero, suc, ◌+◌, ◌-◌, ◌*◌, ◌<◌, ◌≤◌, eqb, leb, ltb, length, get_or, take, drop}
 use Rattle.std.proofs.Common.{sym, ap, ◌∙◌, add-zero, zero-add, not-suc-le-zero, add-one, leb-true, ltb-true, arith, length-drop, length-take-le}
 use Rattle.ground.specs.Pick.{both, both_left, both_right}
-use Rattle.ground.specs.Answers.{Rule, unless, first, number_of, answer_of}
-use Rattle.ground.specs.AnswerLaws.{number-of-answer}
+use Rattle.ground.specs.Answers.{Answer, Rule, unless, first, number_of}
+use Rattle.ground.specs.declared.Refusal.TheVariants.{OutputLength, BadFields, TooManyBlocks}
 use Rattle.ground.specs.Outcome.{Writes, unique-writes, unique-equation}
 use Rattle.ground.specs.Paste.{Pasted}
-use Rattle.ground.specs.declared.Answer.{Answer}
 use Rattle.books.specs.Fields.{Field, Rising, rising_none, rising-more, last_part, book_of}
 
 -- n fields from field i on, whose bytes begin at byte `at`
@@ -44,9 +43,9 @@ orderly (suc n) i r es ks ns = both (field_fits r (get_or es i 0) (get_or ks i 0
 -- 45 an empty field, a kind outside 1 to 7 or a wrong order (or lists that do not fit each other), 46 too many blocks, 20 output length: in this order
 unfoldable pub write_rules : List ℕ → List ℕ → List ℕ → List ℕ → List ℕ → List Rule
 write_rules es ks ns d out =
-    unless 45 (both (lists_fit es ks ns d) (orderly (length es) 0 0 es ks ns))
-    ∷ unless 46 (leb (blocks (length ns) ns) 65536)
-    ∷ unless 20 (eqb (length out) (512 * blocks (length ns) ns)) ∷ []
+    unless BadFields (both (lists_fit es ks ns d) (orderly (length es) 0 0 es ks ns))
+    ∷ unless TooManyBlocks (leb (blocks (length ns) ns) 65536)
+    ∷ unless OutputLength (eqb (length out) (512 * blocks (length ns) ns)) ∷ []
 
 -- What the writer promises of its answer and of the lent output, before and after.
 abbrev pub Written : List ℕ → List ℕ → List ℕ → List ℕ → List ℕ → Answer → List ℕ → Type 0
@@ -172,5 +171,5 @@ unfolding total
 rise es ks ns d f o = let z : 0 + length es ≡ length es = omega arith in fields-rise (length es) 0 0 0 es ks ns d o refl (rw z (omega arith))
 
 -- the same promise, by the answer's number
-pub by_number : {m k : ℕ} {result before : List ℕ} {a : Answer} {after : List ℕ} → Writes m result before a after → k ≡ number_of a → Writes m result before (answer_of k) after
-by_number {m} w e = record { answer = ap answer_of (e ∙ ap number_of w.answer ∙ number-of-answer m); refused = w.refused; done = w.done }
+pub by_number : {m k : ℕ} {result before : List ℕ} {a b : Answer} {after : List ℕ} → Writes m result before a after → k ≡ number_of a → number_of b ≡ k → Writes m result before b after
+by_number w e is = record { answer = is ∙ e ∙ w.answer; refused = w.refused; done = w.done }

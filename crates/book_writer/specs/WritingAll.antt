@@ -1,14 +1,13 @@
 -- The writer's loop over the fields, and what its refusals rule out.
 -- Rests on Lists and Going.
-use Rattle.std.specs.Prelude.{◌≡◌, refl, true, false, ℕ, zero, suc, ◌+◌, ◌-◌, ◌*◌, ◌/◌, ◌<◌, ◌≤◌, min, eqb, leb, length, get_or, take, drop}
-use Rattle.std.proofs.Common.{ap, subst, ◌∙◌, length-append, length-drop, length-take-le}
+use Rattle.std.specs.Prelude.{◌≡◌, Ok, refl, true, false, ℕ, zero, suc, ◌+◌, ◌-◌, ◌*◌, ◌/◌, ◌<◌, ◌≤◌, min, eqb, leb, length, get_or, take, drop}
+use Rattle.std.proofs.Common.{sym, ap, subst, ◌∙◌, length-append, length-drop, length-take-le}
 use mathlib.Core.List.{List, [], ◌∷◌, ◌++◌}
 use native.Mathlib.Omega.{arith}
 use borrow.Author.Tests.{eqb-true, leb-true, lt-leb, le-leb}
 use Rattle.ground.specs.Pick.{pick, both, both_left, both_right}
 use Rattle.ground.specs.Answers.{unless, first}
-use Rattle.ground.specs.AnswerLaws.{answer-done}
-use Rattle.ground.specs.declared.Answer.TheVariants.{Done}
+use Rattle.ground.specs.declared.Refusal.TheVariants.{OutputLength, BadFields, TooManyBlocks}
 use Rattle.ground.specs.First.{first_passes}
 use Rattle.books.specs.Book.{written, read_number, book_parts}
 use Rattle.books.specs.Fields.{cut, last_part, parts_of, book_of, fields_of, round_trip, Full, written-full}
@@ -180,25 +179,25 @@ module _ (es ks ns d out : List ℕ) where
   pub not-refused : first (write_rules es ks ns d out) ≡ 0 → Allowed out es ks ns d
   unfolding write_rules
   not-refused z =
-      let later = unless 46 (leb (blocks (length ns) ns) 65536) ∷ unless 20 (eqb (length out) (512 * blocks (length ns) ns)) ∷ [] in
-      let a = first_passes 45 (both (lists_fit es ks ns d) (orderly (length es) 0 0 es ks ns)) later (omega arith) z in
-      let b = first_passes 46 (leb (blocks (length ns) ns) 65536) (unless 20 (eqb (length out) (512 * blocks (length ns) ns)) ∷ []) (omega arith) a.1 in
-      let c = first_passes 20 (eqb (length out) (512 * blocks (length ns) ns)) [] (omega arith) b.1 in
+      let later = unless TooManyBlocks (leb (blocks (length ns) ns) 65536) ∷ unless OutputLength (eqb (length out) (512 * blocks (length ns) ns)) ∷ [] in
+      let a = first_passes BadFields (both (lists_fit es ks ns d) (orderly (length es) 0 0 es ks ns)) later z in
+      let b = first_passes TooManyBlocks (leb (blocks (length ns) ns) 65536) (unless OutputLength (eqb (length out) (512 * blocks (length ns) ns)) ∷ []) a.1 in
+      let c = first_passes OutputLength (eqb (length out) (512 * blocks (length ns) ns)) [] b.1 in
       allowed out es ks ns d (both_left (lists_fit es ks ns d) (orderly (length es) 0 0 es ks ns) a.0) (both_right (lists_fit es ks ns d) (orderly (length es) 0 0 es ks ns) a.0)
       (leb-true _ _ b.0) (eqb-true _ _ c.0)
 
 -- ---- what is written with 0 is read with 0, and the fields read are those that the lists say
-pub write-then-read : (es ks ns d : List ℕ) {before after : List ℕ} → Written es ks ns d before Done after → (read_number after ≡ 0) × (fields_of after ≡ fields_in es ks ns d)
+pub write-then-read : (es ks ns d : List ℕ) {before after : List ℕ} → Written es ks ns d before (Ok tt) after → (read_number after ≡ 0) × (fields_of after ≡ fields_in es ks ns d)
 write-then-read es ks ns d {before} {after} w =
-    let none = answer-done (first (write_rules es ks ns d before)) w.answer refl in
+    let none = sym w.answer in
     let a = not-refused es ks ns d before none in
     rw (w.done none) (round_trip (fields_in es ks ns d) (rise es ks ns d a.bytes a.orders) (omega (arith, count-fields a, a.few)))
 
 -- ---- and walking the cursor gives exactly those fields, bytes included; each part is full but a field's last
-pub write-then-walk : (es ks ns d : List ℕ) {before after : List ℕ} → Written es ks ns d before Done after
+pub write-then-walk : (es ks ns d : List ℕ) {before after : List ℕ} → Written es ks ns d before (Ok tt) after
     → (walk (length after / 512) after 0 ≡ fields_in es ks ns d) × Full (book_parts after)
 write-then-walk es ks ns d {before} {after} w =
-    let none = answer-done (first (write_rules es ks ns d before)) w.answer refl in
+    let none = sym w.answer in
     let a = not-refused es ks ns d before none in
     let up = rise es ks ns d a.bytes a.orders in
     rw (w.done none) (walk-written (fields_in es ks ns d) up (omega (arith, count-fields a, a.few)), written-full (fields_in es ks ns d) up)

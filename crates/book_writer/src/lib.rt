@@ -10,8 +10,8 @@ ghost use Rattle.books.specs.Fields.{book_of};
 ghost use Rattle.book_writer.specs.Lists.{fields_in, Written};
 ghost use Rattle.book_writer.specs.WritingAll.{Allowed};
 
-use ground::Answer;
-use lists::write_refusal;
+use ground::Refusal;
+use lists::check_write;
 use parts::write_field;
 
 // Every field goes into the output.
@@ -21,16 +21,15 @@ fn write_all(out: &mut [u8], exercises: &[u16], kinds: &[u8], sizes: &[usize], p
 {
     let mut at = 0;
     let mut b = 0;
-    let mut i = 0;
-    while i < exercises.len() {
+    // By index: a zip of three lists would be no plainer.
+    for i in 0..exercises.len() {
         let end = at + sizes[i];
         b = write_field(out, b, exercises[i], kinds[i], &payload[at..end]);
         at = end;
-        i += 1;
     }
 }
 
-// The book of the fields. 0, or 45 an empty field, a kind outside 1 to 7, a wrong order or lists that do not fit each other, 46 too many blocks, 20 output length;
+// The book of the fields. 45 an empty field, a kind outside 1 to 7, a wrong order or lists that do not fit each other, 46 too many blocks, 20 output length;
 // a refusal writes nothing.
 pub fn write(
     exercises: &[u16],
@@ -38,12 +37,10 @@ pub fn write(
     sizes: &[usize],
     payload: &[u8],
     out: &mut [u8],
-) -> Answer
+) -> Result<(), Refusal>
     ensures { Written exercises.now kinds.now sizes.now payload.now out.old result out.new }
 {
-    let n = write_refusal(exercises, kinds, sizes, payload, out);
-    if n == 0 {
-        write_all(out, exercises, kinds, sizes, payload);
-    }
-    ground::answer_of(n)
+    check_write(exercises, kinds, sizes, payload, out)?;
+    write_all(out, exercises, kinds, sizes, payload);
+    Ok(())
 }

@@ -7,11 +7,11 @@ ghost use Rattle.books.specs.Fields.{cut, last_part, part_at};
 
 use blocks::Head;
 
-// The lower of two numbers.
-pub fn least(a: usize, b: usize) -> usize
-    ensures { result ≡ min a b }
+// How many blocks a field of so many bytes takes.
+pub fn parts_in(size: usize) -> usize
+    ensures { result ≡ last_part size + 1 }
 {
-    if a <= b { a } else { b }
+    size.saturating_sub(1) / 500 + 1
 }
 
 // Part n of a field goes into block b of the output.
@@ -19,8 +19,8 @@ fn write_part(out: &mut [u8], b: usize, head: Head, bytes: &[u8])
     requires { (b < 65536) × ((512 * b + 512 ≤ length out.old) × (500 * head.part ≤ length bytes.now)) }
     ensures { Pasted out.old (512 * b) (block_of (b + 1) (part_at head.exercise head.kind head.part (drop (500 * head.part) bytes.now))) out.new }
 {
-    let at = 500 * (head.part as usize);
-    let end = least(at + 500, bytes.len());
+    let at = 500 * usize::from(head.part);
+    let end = (at + 500).min(bytes.len());
     let from = 512 * b;
     let to = from + 512;
     blocks::fill(&mut out[from..to], head, &bytes[at..end], (b + 1) as u32);
@@ -32,16 +32,14 @@ pub fn write_field(out: &mut [u8], b: usize, exercise: u16, kind: u8, bytes: &[u
     ensures { (result ≡ b + (last_part (length bytes.now) + 1))
         × Pasted out.old (512 * b) (written (b + 1) (cut (last_part (length bytes.now)) exercise kind 0 bytes.now)) out.new }
 {
-    let count = (bytes.len() - 1) / 500 + 1;
-    let mut n = 0;
-    while n < count {
+    let count = parts_in(bytes.len());
+    for n in 0..count {
         let head = Head {
             exercise,
             kind,
             part: n as u16,
         };
         write_part(out, b + n, head, bytes);
-        n += 1;
     }
     b + count
 }

@@ -1,11 +1,10 @@
 -- The reader's cursor: the field that begins at a block, its bytes, and the block after it. Walking it gives exactly the fields of the book, bytes included.
 -- Rests on Fields.
-use Rattle.std.specs.Prelude.{◌≡◌, refl, Bool, true, false, List, [], ◌∷◌, ◌++◌, ℕ, zero, suc, ◌+◌, ◌/◌, ◌≤◌, leb, length, drop}
+use Rattle.std.specs.Prelude.{◌≡◌, Option, Some, None, refl, Bool, true, false, List, [], ◌∷◌, ◌++◌, ℕ, zero, suc, ◌+◌, ◌/◌, ◌≤◌, leb, length, drop}
 use Rattle.std.proofs.Common.{sym, ap, ◌∙◌, append-nil, one-add, arith, drop_of_length-le, drop-drop}
 use Rattle.ground.specs.Pick.{pick}
 use Rattle.blocks.specs.Block.{Part}
-use Rattle.books.specs.declared.Next.{Next}
-use Rattle.books.specs.declared.Next.TheVariants as Nexts
+use Rattle.books.specs.declared.FieldAt.{FieldAt}
 use Rattle.books.specs.Book.{book_parts, length-parts}
 use Rattle.books.specs.Fields.{Field, Rising, gather, fields_of, book_of, parts_of, round_trip}
 
@@ -24,12 +23,12 @@ bytes_of [] = []
 bytes_of (p ∷ ps) = p.payload ++ run_bytes ps
 
 -- what stands at the front of the parts from block b on: a field's exercise, kind, size and the block after it
-abbrev pub next_of : ℕ → List Part → Next
-next_of b [] = Nexts.End
-next_of b (p ∷ ps) = Nexts.Field p.head.exercise p.head.kind (length (bytes_of (p ∷ ps))) (b + 1 + run ps)
+abbrev pub next_of : ℕ → List Part → Option FieldAt
+next_of b [] = None
+next_of b (p ∷ ps) = Some (record { exercise = p.head.exercise; kind = p.head.kind; size = length (bytes_of (p ∷ ps)); after = b + 1 + run ps })
 
 -- what the cursor hands out at block b, and the bytes of the field there
-unfoldable pub field_at : List ℕ → ℕ → Next
+unfoldable pub field_at : List ℕ → ℕ → Option FieldAt
 field_at s b = next_of b (drop b (book_parts s))
 
 unfoldable pub bytes_at : List ℕ → ℕ → List ℕ
@@ -37,9 +36,9 @@ bytes_at s b = bytes_of (drop b (book_parts s))
 
 -- ---- the walk: from a block on, what the cursor hands out and the bytes there, then on from the block after; n bounds the steps
 
-abbrev told : Next → List ℕ → (ℕ → List Field) → List Field
-told Nexts.End d rest = []
-told (Nexts.Field e k size after) d rest = record { exercise = e; kind = k; payload = d } ∷ rest after
+abbrev told : Option FieldAt → List ℕ → (ℕ → List Field) → List Field
+told None d rest = []
+told (Some f) d rest = record { exercise = f.exercise; kind = f.kind; payload = d } ∷ rest f.after
 
 unfoldable pub walk : ℕ → List ℕ → ℕ → List Field
 walk zero s b = []
@@ -81,10 +80,10 @@ pub walk-written : (fs : List Field) → Rising 0 fs → length (parts_of fs) �
 walk-written fs up few = walk-fields (book_of fs) ∙ (round_trip fs up few).1
 
 -- the size that the cursor hands out is the count of the bytes
-pub size-told : (s : List ℕ) (b : ℕ) {e k size after : ℕ} → field_at s b ≡ Nexts.Field e k size after → size ≡ length (bytes_at s b)
+pub size-told : (s : List ℕ) (b : ℕ) {f : FieldAt} → field_at s b ≡ Some f → f.size ≡ length (bytes_at s b)
 unfolding field_at bytes_at
-size-told s b {e} {k} {size} {after} = by (drop b (book_parts s))
+size-told s b {f} = by (drop b (book_parts s))
   where
-    by : (ps : List Part) → next_of b ps ≡ Nexts.Field e k size after → size ≡ length (bytes_of ps)
-    by [] h = let z : ◌≡◌ {A = ℕ} 0 1 = cc in absurd (omega arith)
+    by : (ps : List Part) → next_of b ps ≡ Some f → f.size ≡ length (bytes_of ps)
+    by [] h = cc
     by (p ∷ ps) h = cc

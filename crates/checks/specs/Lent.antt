@@ -1,9 +1,10 @@
 -- What the buffers of an operation are where nothing is refused: the set is allowed, every length is the exact one, and every A and B can be made invertible.
 -- Callers' proofs read these facts by their names. Rests on scheme's Refusals, refusals' Fits and streams' AbqLent.
 use Rattle.std.specs.Prelude.{◌≡◌, true, List, [], ◌∷◌, ℕ, length}
-use Rattle.std.proofs.Common.{◌∙◌, arith}
+use Rattle.std.proofs.Common.{◌∙◌}
 use Rattle.ground.specs.Answers.{first, first-append, met-none, met-more, first-met}
 use Rattle.ground.specs.First.{first-parts, first_passes}
+use Rattle.ground.specs.declared.Refusal.TheVariants.{NotInvertible}
 use Rattle.sets.specs.declared.Set.{Set}
 use Rattle.sets.specs.Sets.{allowed_set, public_bytes, private_bytes, vinegar_bytes, target_bytes, key_bytes, signature_bytes, work_bytes, salt_bytes}
 use Rattle.sets.specs.Bounds.{Bounds}
@@ -16,7 +17,7 @@ use Rattle.streams.specs.TermOf.{AbqLent}
 
 -- of one rule
 only-met : (set : Set) (abq : List ℕ) → first (invertible_rule set abq ∷ []) ≡ 0 → all_invertible set abq ≡ true
-only-met set abq e = (first_passes 21 (all_invertible set abq) [] (λ z. omega arith) e).0
+only-met set abq e = (first_passes NotInvertible (all_invertible set abq) [] e).0
 
 -- ---- signing
 

@@ -1,17 +1,17 @@
 -- Refusal 21, block by block: the first that is refused decides.
 -- Rests on ground's tests and answers, and on streams' blocks that pass.
-use Rattle.std.specs.Prelude.{◌≡◌, Bool, List, [], ◌∷◌, ℕ, ◌+◌, ◌*◌, ◌<◌, ◌≤◌}
+use Rattle.std.specs.Prelude.{◌≡◌, Result, Ok, Err, Bool, List, [], ◌∷◌, ℕ, ◌+◌, ◌*◌, ◌<◌, ◌≤◌}
 use Rattle.std.proofs.Math.Path.{refl, sym, ap}
 use Rattle.std.proofs.Common.{◌∙◌, arith}
 use Rattle.std.proofs.Math.Bool.{true, false}
 use Rattle.ground.specs.Pick.{pick}
 use Rattle.ground.specs.Tests.{every}
-use Rattle.ground.specs.Answers.{answer_of, first, unless}
-use Rattle.ground.specs.declared.Answer.{Answer}
-use Rattle.ground.specs.declared.Answer.TheVariants.{Done, Refused}
+use Rattle.ground.specs.Answers.{code, number_of, first, unless}
+use Rattle.ground.specs.declared.Refusal.TheVariants.{NotInvertible}
+use Rattle.ground.specs.declared.Refusal.{Refusal}
 use Rattle.sets.specs.declared.Set.{Set}
 use Rattle.sets.specs.Sets.{all_terms}
-use Rattle.ground.specs.AnswerLaws.{answer-done, answer-refused}
+use Rattle.ground.specs.AnswerLaws.{answer-done, code-some}
 use Rattle.scheme.specs.Maps.{all_invertible}
 use Rattle.ground.specs.Tests.{every-none, every_more, every-fails}
 use Rattle.streams.specs.TermOf.{passes}
@@ -28,13 +28,13 @@ picked : (b : Bool) → ◌≡◌ {A = ℕ} (pick b 0 21) 0 → b ≡ true
 picked true e = refl
 picked false e = absurd (omega arith)
 
-pub passing-next : {l : ℕ} {abq : List ℕ} {count b : ℕ} {a : Answer} → Passing l abq count b → b < count → a ≡ answer_of (pick (passes l abq b) 0 21) → a ≡ Done
-    → Passing l abq count (b + 1)
+pub passing-next : {l : ℕ} {abq : List ℕ} {count b : ℕ} {A : Type 0} {a : Result A Refusal} {x : A} → Passing l abq count b → b < count
+    → number_of a ≡ pick (passes l abq b) 0 21 → a ≡ Ok x → Passing l abq count (b + 1)
 passing-next {l} {abq} {b = b} p h is done =
     record { upto = omega arith; so_far = every_more b (passes l abq) p.so_far (picked (passes l abq b) (answer-done _ is done)) }
 
--- the rule's answer, by whether every block passes
-answer-21 : (met : Bool) → answer_of (first (unless 21 met ∷ [])) ≡ answer_of (pick met 0 21)
+-- the rule's number, by whether every block passes
+answer-21 : (met : Bool) → first (unless NotInvertible met ∷ []) ≡ pick met 0 21
 unfolding first
 answer-21 true = refl
 answer-21 false = refl
@@ -46,16 +46,19 @@ module _ (set : Set) (abq : List ℕ) where
   passing-all {count} {b} e p h = let all : 2 * all_terms set ≡ b = omega (arith, p.upto) in ap (λ n. every n (passes set.l abq)) all ∙ p.so_far
 
   pub passing-end : {count b : ℕ} → count ≡ 2 * all_terms set → Passing set.l abq count b → count ≤ b
-      → Done ≡ answer_of (first (unless 21 (all_invertible set abq) ∷ []))
-  passing-end e p h = sym (answer-21 (all_invertible set abq) ∙ ap (λ b. answer_of (pick b 0 21)) (passing-all e p h))
+      → 0 ≡ first (unless NotInvertible (all_invertible set abq) ∷ [])
+  passing-end e p h = sym (answer-21 (all_invertible set abq) ∙ ap (λ b. pick b 0 21) (passing-all e p h))
 
   -- a block that is refused decides
-  pub passing-stops : (b : ℕ) {a : Answer} {k : ℕ} → b < 2 * all_terms set → a ≡ answer_of (pick (passes set.l abq b) 0 21) → a ≡ Refused k
-      → a ≡ answer_of (first (unless 21 (all_invertible set abq) ∷ []))
+  pub passing-stops : (b : ℕ) {A : Type 0} {a : Result A Refusal} {r : Refusal} → b < 2 * all_terms set → number_of a ≡ pick (passes set.l abq b) 0 21 → a ≡ Err r
+      → code r ≡ first (unless NotInvertible (all_invertible set abq) ∷ [])
   unfolding all_invertible
-  passing-stops b {a} h is refused = by (passes set.l abq b) refl
+  passing-stops b {r = r} h is refused = by (passes set.l abq b) refl
     where
-      by : (t : Bool) → passes set.l abq b ≡ t → a ≡ answer_of (first (unless 21 (all_invertible set abq) ∷ []))
-      by true t = absurd (answer-refused _ is refused (ap (λ b. pick b 0 21) t))
+      number : code r ≡ pick (passes set.l abq b) 0 21
+      number = sym (ap number_of refused) ∙ is
+
+      by : (t : Bool) → passes set.l abq b ≡ t → code r ≡ first (unless NotInvertible (all_invertible set abq) ∷ [])
+      by true t = absurd (code-some r (number ∙ ap (λ b. pick b 0 21) t))
       by false t =
-          is ∙ ap (λ b. answer_of (pick b 0 21)) (t ∙ sym (every-fails (2 * all_terms set) (passes set.l abq) b h t)) ∙ sym (answer-21 (all_invertible set abq))
+          number ∙ ap (λ b. pick b 0 21) (t ∙ sym (every-fails (2 * all_terms set) (passes set.l abq) b h t)) ∙ sym (answer-21 (all_invertible set abq))

@@ -5,12 +5,12 @@
 mod invertible;
 
 ghost use Rattle.std.specs.Prelude.{◌≡◌};
-ghost use Rattle.ground.specs.Answers.{answer_of, first};
+ghost use Rattle.ground.specs.Answers.{number_of, first};
 ghost use Rattle.scheme.specs.Refusals.{sign_refusals, verdict_refusals};
 
-use ground::Answer;
+use ground::Refusal;
 pub use invertible::all_invertible;
-use sets::Set;
+use sets::{AllowedSet, Set};
 
 // Signing's refusals: 10, 11, 12, 13, 14, 15, 17, 19, 20, 21, the first in this order.
 pub fn check_sign(
@@ -23,11 +23,11 @@ pub fn check_sign(
     salt: &[u8],
     work: &[u8],
     output: &[u8],
-) -> Answer
-    ensures { result ≡ answer_of (first (sign_refusals set public.now abq.now private.now vinegar.now target.now
-        salt.now work.now output.now)) }
+) -> Result<(), Refusal>
+    ensures { number_of result ≡ first (sign_refusals set public.now abq.now private.now vinegar.now target.now
+        salt.now work.now output.now) }
 {
-    let refusal = refusals::sign_refusal(
+    refusals::sign_refusal(
         set,
         public.len(),
         abq.len(),
@@ -37,10 +37,8 @@ pub fn check_sign(
         salt.len(),
         work.len(),
         output.len(),
-    );
-    if refusal != 0 {
-        return Answer::Refused(refusal);
-    }
+    )?;
+    let set = AllowedSet::new(set)?;
     all_invertible(set, abq)
 }
 
@@ -52,19 +50,17 @@ pub fn check_verdict(
     target: &[u8],
     key: &[u8],
     signature: &[u8],
-) -> Answer
-    ensures { result ≡ answer_of (first (verdict_refusals set public.now abq.now target.now key.now signature.now)) }
+) -> Result<(), Refusal>
+    ensures { number_of result ≡ first (verdict_refusals set public.now abq.now target.now key.now signature.now) }
 {
-    let refusal = refusals::verdict_refusal(
+    refusals::verdict_refusal(
         set,
         public.len(),
         abq.len(),
         target.len(),
         key.len(),
         signature.len(),
-    );
-    if refusal != 0 {
-        return Answer::Refused(refusal);
-    }
+    )?;
+    let set = AllowedSet::new(set)?;
     all_invertible(set, abq)
 }

@@ -21,18 +21,9 @@ fn line(rt: &impl Print, a: u8) -> io::Result<()> {
     println!(rt)
 }
 
-// The lines of four elements, from a on; a is read modulo 16, so that no sum is too large for a byte.
-fn four(rt: &impl Print, a: u8) -> io::Result<()> {
-    let first = a % 16;
-    line(rt, first)?;
-    line(rt, first + 1)?;
-    line(rt, first + 2)?;
-    line(rt, first + 3)
-}
-
 fn main(rt: HostRuntime) -> io::Result<()> {
-    four(&rt, 0)?;
-    four(&rt, 4)?;
-    four(&rt, 8)?;
-    four(&rt, 12)
+    for a in 0..16u8 {
+        line(&rt, a)?;
+    }
+    Ok(())
 }

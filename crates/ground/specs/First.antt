@@ -9,11 +9,13 @@ use mathlib.Core.List.{List, [], ◌∷◌, ◌++◌, Memᴰ}
 use Rattle.std.proofs.Math.Decide.{ℕ_discrete}
 use Rattle.ground.specs.Pick.{pick, both}
 use Rattle.ground.specs.Tests.{both_first, both_rest}
-use Rattle.ground.specs.Answers.{Rule, unless, first, Met, met-none, met-more, first-met, first-append, first-stands}
+use Rattle.ground.specs.declared.Refusal.{Refusal}
+use Rattle.ground.specs.AnswerLaws.{code-some}
+use Rattle.ground.specs.Answers.{Rule, unless, number, first, Met, met-none, met-more, first-met, first-append, first-stands}
 
 -- refusal n is the first of the list that applies: the rules before it are met, and this one is not
 pub data First (n : ℕ) : List Rule → Type 0 where
-  first-here : {r : Rule} {rs : List Rule} → r.number ≡ n → r.met ≡ false → First n (r ∷ rs)
+  first-here : {r : Rule} {rs : List Rule} → (number r) ≡ n → r.met ≡ false → First n (r ∷ rs)
   first-later : {r : Rule} {rs : List Rule} → r.met ≡ true → First n rs → First n (r ∷ rs)
 
 -- a refusal is given exactly where it is the first that applies
@@ -40,19 +42,19 @@ first-exactly rs n h = (first_to rs n h, first-from n)
 -- the numbers of the rules, in order
 abbrev pub numbers : List Rule → List ℕ
 numbers [] = []
-numbers (r ∷ rs) = r.number ∷ numbers rs
+numbers (r ∷ rs) = (number r) ∷ numbers rs
 
 -- every number is above a: a test, so that it computes on a list that is written out
 abbrev pub above : ℕ → List Rule → Bool
 above a [] = true
-above a (r ∷ rs) = both (ltb a r.number) (above a rs)
+above a (r ∷ rs) = both (ltb a (number r)) (above a rs)
 
 module _ (a : ℕ) where
-  head-above : (r : Rule) (rs : List Rule) → T (above a (r ∷ rs)) → a < r.number
-  head-above r rs t = ltb→lt a r.number (both_first (ltb a r.number) (above a rs) t)
+  head-above : (r : Rule) (rs : List Rule) → T (above a (r ∷ rs)) → a < (number r)
+  head-above r rs t = ltb→lt a (number r) (both_first (ltb a (number r)) (above a rs) t)
 
   tail-above : (r : Rule) (rs : List Rule) → T (above a (r ∷ rs)) → T (above a rs)
-  tail-above r rs t = both_rest (ltb a r.number) (above a rs) t
+  tail-above r rs t = both_rest (ltb a (number r)) (above a rs) t
 
   -- no refusal is given: every rule is met
   pub met-of-first : (rs : List Rule) → T (above a rs) → first rs ≡ 0 → Met rs
@@ -62,7 +64,7 @@ module _ (a : ℕ) where
     where
       by : (b : Bool) → r.met ≡ b → (first rs ≡ 0 → Met rs) → Met (r ∷ rs)
       by true q h = met-more q (h (rw q at e))
-      by false q h = let z : r.number ≡ 0 = rw q at e in let p = head-above r rs t in absurd (omega arith)
+      by false q h = let z : (number r) ≡ 0 = rw q at e in let p = head-above r rs t in absurd (omega arith)
 
   -- and the other way round
   pub none-exactly : (rs : List Rule) → T (above a rs) → (first rs ≡ 0) ↔ Met rs
@@ -76,7 +78,7 @@ module _ (a : ℕ) where
     where
       by : (b : Bool) → r.met ≡ b → ((first rs ≡ 0 → ⊥) → a < first rs) → a < first (r ∷ rs)
       by true q later = let e : first (r ∷ rs) ≡ first rs = rw q in subst (λ m. a < m) (sym e) (later (λ w. z (e ∙ w)))
-      by false q later = let e : first (r ∷ rs) ≡ r.number = rw q in subst (λ m. a < m) (sym e) (head-above r rs t)
+      by false q later = let e : first (r ∷ rs) ≡ (number r) = rw q in subst (λ m. a < m) (sym e) (head-above r rs t)
 
 -- the answer is 0 or the number of a rule
 pub first-listed : (rs : List Rule) → Memᴰ (first rs) (0 ∷ numbers rs)
@@ -84,11 +86,11 @@ unfolding first
 first-listed [] = Memᴰ.head refl
 first-listed (r ∷ rs) = by r.met (first-listed rs)
   where
-    further : (first rs ≡ 0) ⊎ Memᴰ (first rs) (numbers rs) → Memᴰ (first rs) (0 ∷ (r.number ∷ numbers rs))
+    further : (first rs ≡ 0) ⊎ Memᴰ (first rs) (numbers rs) → Memᴰ (first rs) (0 ∷ (number r ∷ numbers rs))
     further (inl e) = Memᴰ.head e
     further (inr m) = Memᴰ.tail (Memᴰ.tail m)
 
-    by : (b : Bool) → Memᴰ (first rs) (0 ∷ numbers rs) → Memᴰ (pick b (first rs) r.number) (0 ∷ (r.number ∷ numbers rs))
+    by : (b : Bool) → Memᴰ (first rs) (0 ∷ numbers rs) → Memᴰ (pick b (first rs) (number r)) (0 ∷ (number r ∷ numbers rs))
     by true m = further (Memᴰ.cases_cons m)
     by false m = Memᴰ.tail (Memᴰ.head refl)
 
@@ -105,7 +107,7 @@ first-parts rs rs' t e =
     ]
 
 -- no refusal: the first rule is met, and so is the rest
-pub first_passes : (n : ℕ) (met : Bool) (rs : List Rule) → (n ≡ 0 → ⊥) → first (unless n met ∷ rs) ≡ 0 → (met ≡ true) × (first rs ≡ 0)
+pub first_passes : (r : Refusal) (met : Bool) (rs : List Rule) → first (unless r met ∷ rs) ≡ 0 → (met ≡ true) × (first rs ≡ 0)
 unfolding first
-first_passes n true rs p e = (refl, e)
-first_passes n false rs p e = absurd (p e)
+first_passes r true rs e = (refl, e)
+first_passes r false rs e = absurd (code-some r e)

@@ -3,24 +3,24 @@
 use Rattle.std.specs.Prelude.{◌≡◌, List, ◌⊎◌, ℕ}
 use Rattle.std.proofs.Common.{sym, ◌∙◌, ⊎_elim}
 use Rattle.std.proofs.Math.Decide.{ℕ_discrete}
-use Rattle.ground.specs.Answers.{answer_of}
-use Rattle.ground.specs.declared.Answer.{Answer}
+use Rattle.ground.specs.Answers.{Answer, number_of}
+use Rattle.ground.specs.AnswerLaws.{same-answer}
 
--- the answer is that of the refusal's number, 0 for done; a refusal leaves the output as it was; done leaves the result there, whole
+-- the answer's number is the refusal's, 0 for done; a refusal leaves the output as it was; done leaves the result there, whole
 pub record Writes (refusal : ℕ) (result before : List ℕ) (r : Answer) (after : List ℕ) : Type 0 where
-  pub answer : r ≡ answer_of refusal
+  pub answer : number_of r ≡ refusal
   pub refused : (refusal ≡ 0 → ⊥) → after ≡ before
   pub done : refusal ≡ 0 → after ≡ result
 
 pub unique-writes : {n : ℕ} {result before : List ℕ} {r r' : Answer} {after after' : List ℕ} → Writes n result before r after → Writes n result before r' after'
     → (r ≡ r') × (after ≡ after')
-unique-writes {n} a b = (
-  a.answer ∙ sym b.answer,
+unique-writes {n} {r = r} {r'} a b = (
+  same-answer r r' (a.answer ∙ sym b.answer),
   elim (ℕ_discrete n 0) [ yes e ↦ a.done e ∙ sym (b.done e) | no e ↦ a.refused e ∙ sym (b.refused e) ],
 )
 
 -- an operation that writes its result where nothing is refused, and otherwise nothing
-pub writes-by : {n : ℕ} {result before : List ℕ} {r : Answer} {after : List ℕ} → r ≡ answer_of n
+pub writes-by : {n : ℕ} {result before : List ℕ} {r : Answer} {after : List ℕ} → number_of r ≡ n
     → ((n ≡ 0) × (after ≡ result)) ⊎ ((n ≡ 0 → ⊥) × (after ≡ before)) → Writes n result before r after
 writes-by a w =
     record {

@@ -1,9 +1,8 @@
 -- What key generation promises (page 01, "Keys, signing, verdict").
 -- Rests on scheme's key and its refusals, and on ground's Outcome.
 use Rattle.std.specs.Prelude.{List, ℕ}
-use Rattle.ground.specs.Answers.{first}
+use Rattle.ground.specs.Answers.{Answer, first}
 use Rattle.ground.specs.Outcome.{Writes}
-use Rattle.ground.specs.declared.Answer.{Answer}
 use Rattle.sets.specs.declared.Set.{Set}
 use Rattle.scheme.specs.Maps.{key_of}
 use Rattle.scheme.specs.Refusals.{keygen_refusals}

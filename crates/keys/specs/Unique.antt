@@ -4,7 +4,7 @@ use Rattle.std.specs.Prelude.{◌≡◌, refl, List, ℕ, ◌*◌, ◌%◌, leng
 use Rattle.std.proofs.Common.{sym, ap, ◌∙◌, arith}
 use Rattle.std.proofs.Math.Decide.{dec_lt}
 use Rattle.ground.specs.Outcome.{unique-writes}
-use Rattle.ground.specs.declared.Answer.{Answer}
+use Rattle.ground.specs.Answers.{Answer}
 use Rattle.packing.specs.Packing.{element, Bytes}
 use Rattle.packing.proofs.Laws.{element-ext}
 use Rattle.packing.proofs.Written.{written-unique}

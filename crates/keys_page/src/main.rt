@@ -10,49 +10,48 @@ fn main(rt: HostRuntime) -> io::Result<()> {
     let public = b"\x01\x10\x00\x00\x00\x00";
     let private = b"\x15";
     print!(rt; "set (1,1,2), public 01 10 00 00 00 00, private 15: ")?;
-    two_bytes(&rt, example, public, private)?;
+    generate(&rt, example, public, private, &mut [0xee; 2])?;
     print!(rt; "the set (1,1,5): ")?;
-    two_bytes(&rt, Set { v: 1, o: 1, l: 5 }, public, private)?;
+    generate(
+        &rt,
+        Set { v: 1, o: 1, l: 5 },
+        public,
+        private,
+        &mut [0xee; 2],
+    )?;
     print!(rt; "a public stream of 5 bytes: ")?;
-    two_bytes(&rt, example, b"\x01\x10\x00\x00\x00", private)?;
+    generate(
+        &rt,
+        example,
+        b"\x01\x10\x00\x00\x00",
+        private,
+        &mut [0xee; 2],
+    )?;
     print!(rt; "a private stream of 2 bytes: ")?;
-    two_bytes(&rt, example, public, b"\x15\x00")?;
+    generate(&rt, example, public, b"\x15\x00", &mut [0xee; 2])?;
     print!(rt; "an output of 3 bytes: ")?;
-    three_bytes(&rt, example, public, private)?;
+    generate(&rt, example, public, private, &mut [0xee; 3])?;
     print!(rt; "the set and every length: ")?;
-    three_bytes(&rt, Set { v: 0, o: 1, l: 2 }, b"\x01", b"")?;
+    generate(&rt, Set { v: 0, o: 1, l: 2 }, b"\x01", b"", &mut [0xee; 3])?;
     print!(rt; "every length: ")?;
-    three_bytes(&rt, example, b"\x01", b"")?;
+    generate(&rt, example, b"\x01", b"", &mut [0xee; 3])?;
     print!(rt; "the private stream and the output: ")?;
-    three_bytes(&rt, example, public, b"")
+    generate(&rt, example, public, b"", &mut [0xee; 3])
 }
 
-// The answer and the output, for an output of two bytes.
-fn two_bytes(rt: &impl Print, set: Set, public: &[u8], private: &[u8]) -> io::Result<()> {
-    let mut key = [238u8; 2];
-    let answer = keys::generate(set, public, private, &mut key);
-    number(rt, ground::number(answer))?;
-    byte(rt, key[0])?;
-    byte(rt, key[1])?;
+// The answer's number, and the output in hexadecimal.
+fn generate(
+    rt: &impl Print,
+    set: Set,
+    public: &[u8],
+    private: &[u8],
+    key: &mut [u8],
+) -> io::Result<()> {
+    let answer = keys::generate(set, public, private, key);
+    let number = ground::number(answer);
+    print!(rt; "{number}")?;
+    for b in key.iter() {
+        print!(rt; " {b:02X}")?;
+    }
     println!(rt)
-}
-
-// The same for an output of three bytes.
-fn three_bytes(rt: &impl Print, set: Set, public: &[u8], private: &[u8]) -> io::Result<()> {
-    let mut key = [238u8; 3];
-    let answer = keys::generate(set, public, private, &mut key);
-    number(rt, ground::number(answer))?;
-    byte(rt, key[0])?;
-    byte(rt, key[1])?;
-    byte(rt, key[2])?;
-    println!(rt)
-}
-
-fn number(rt: &impl Print, n: u32) -> io::Result<()> {
-    print!(rt; "{n}")
-}
-
-// A space and the byte in two digits to the base 16.
-fn byte(rt: &impl Print, b: u8) -> io::Result<()> {
-    print!(rt; " {b:02X}")
 }

@@ -1,6 +1,6 @@
 -- What the reduced matrix says of the system that it came from: the one solution, or a vector that is not zero and is sent to zero.
 -- Also that no two outcomes meet the promise at one area. Rests on Dot and Step.
-use Rattle.std.specs.Prelude.{◌≡◌, refl, ◌≢◌, List, ℕ, ◌+◌, ◌<◌, ◌≤◌, eqb, ltb}
+use Rattle.std.specs.Prelude.{◌≡◌, refl, ◌≢◌, Result, Ok, Err, List, ℕ, ◌+◌, ◌<◌, ◌≤◌, eqb, ltb}
 use Rattle.std.proofs.Common.{sym, ap, ap₂, ◌∙◌, arith}
 use Rattle.std.proofs.Math.Decide.{dec_lt, ℕ_discrete}
 use borrow.Author.Tests.{lt-ltb, le-ltb, eq-eqb, ne_eqb}
@@ -10,9 +10,8 @@ use Rattle.field.specs.Laws.{add-self, mul-zero, zero-mul, one-mul, mul-one}
 use Rattle.field.specs.FieldRing.{field-ring}
 use Rattle.algebra.specs.Ring.{add-cancel}
 use Rattle.algebra.specs.Sum.{sum-two, sum_zeros}
-use Rattle.linear.specs.declared.Outcome.{Outcome}
-use Rattle.linear.specs.declared.Outcome.TheVariants.{Solved, Singular}
-use Rattle.linear.specs.System.{at, apply, Area, Solution, Kernel, Eliminated}
+use Rattle.linear.specs.declared.Singular.{Singular}
+use Rattle.linear.specs.System.{at, apply, Area, Solution, Kernel, singular, Eliminated}
 use Rattle.linear.specs.Dot.{dot, dot-last, dot-beside, beside, beside-below, beside-last, Zero}
 use Rattle.linear.specs.Step.{Small, Reduced, Stepped}
 
@@ -143,19 +142,19 @@ solution-no-kernel a b = b.nonzero (a.trivial b.y b.small b.sent b.place b.insid
 unique-solution : {g : List ℕ} {n : ℕ} {s t : ℕ → ℕ} → Solution g n s → Solution g n t → (c : ℕ) → c < n → s c ≡ t c
 unique-solution {s = s} a b c h = b.only s a.small a.solves c h
 
--- Singular is answered exactly where some vector that is not zero is sent to zero, and Solved exactly where none is
-pub singular-of-kernel : {g h : List ℕ} {n : ℕ} {r : Outcome} → Eliminated g n r h → Kernel g n → r ≡ Singular
-singular-of-kernel {r = Solved} a b = absurd (solution-no-kernel (a.solved refl) b)
-singular-of-kernel {r = Singular} a b = refl
+-- Err is answered exactly where some vector that is not zero is sent to zero, and Ok exactly where none is
+pub singular-of-kernel : {g h : List ℕ} {n : ℕ} {r : Result Unit Singular} → Eliminated g n r h → Kernel g n → r ≡ Err singular
+singular-of-kernel {r = Ok x} a b = absurd (solution-no-kernel (a.solved refl) b)
+singular-of-kernel {r = Err x} a b = refl
 
-pub solved-of-trivial : {g h : List ℕ} {n : ℕ} {r : Outcome} → Eliminated g n r h → (Kernel g n → ⊥) → r ≡ Solved
-solved-of-trivial {r = Solved} a b = refl
-solved-of-trivial {r = Singular} a b = absurd (b (a.singular refl))
+pub solved-of-trivial : {g h : List ℕ} {n : ℕ} {r : Result Unit Singular} → Eliminated g n r h → (Kernel g n → ⊥) → r ≡ Ok tt
+solved-of-trivial {r = Ok x} a b = refl
+solved-of-trivial {r = Err x} a b = absurd (b (a.singular refl))
 
--- The answer, and after Solved the solution, are the area's alone. What Singular leaves in the area is not promised: the caller wipes it.
-pub unique-outcome : {g h h' : List ℕ} {n : ℕ} {r r' : Outcome} → Eliminated g n r h → Eliminated g n r' h'
-    → (r ≡ r') × (r ≡ Solved → (c : ℕ) → c < n → at h n c n ≡ at h' n c n)
-unique-outcome {r = Solved} {r' = Solved} a b = (refl, λ e. unique-solution (a.solved refl) (b.solved refl))
-unique-outcome {r = Solved} {r' = Singular} a b = absurd (solution-no-kernel (a.solved refl) (b.singular refl))
-unique-outcome {r = Singular} {r' = Solved} a b = absurd (solution-no-kernel (b.solved refl) (a.singular refl))
-unique-outcome {r = Singular} {r' = Singular} a b = (refl, λ e. absurd (let z : Singular ≡ Solved = e in let q : ◌≡◌ {A = ℕ} 0 1 = cc in omega arith))
+-- The answer, and after Ok the solution, are the area's alone. What Err leaves in the area is not promised: the caller wipes it.
+pub unique-outcome : {g h h' : List ℕ} {n : ℕ} {r r' : Result Unit Singular} → Eliminated g n r h → Eliminated g n r' h'
+    → (r ≡ r') × (r ≡ Ok tt → (c : ℕ) → c < n → at h n c n ≡ at h' n c n)
+unique-outcome {r = Ok x} {r' = Ok y} a b = (refl, λ e. unique-solution (a.solved refl) (b.solved refl))
+unique-outcome {r = Ok x} {r' = Err y} a b = absurd (solution-no-kernel (a.solved refl) (b.singular refl))
+unique-outcome {r = Err x} {r' = Ok y} a b = absurd (solution-no-kernel (b.solved refl) (a.singular refl))
+unique-outcome {r = Err x} {r' = Err y} a b = (refl, λ e. cc)

@@ -1,6 +1,6 @@
 -- The area's rows as the code writes them: where row r ends, what a pivot search finds, and what a store or a gain of a row does to the entries.
 -- Rests on System and Step, on ground's segments and on the gains of rows.
-use Rattle.std.specs.Prelude.{◌≡◌, refl, ◌≢◌, List, ℕ, ◌+◌, ◌*◌, ◌<◌, ◌≤◌, length, get_or, set}
+use Rattle.std.specs.Prelude.{◌≡◌, refl, ◌≢◌, Option, None, Some, MatchOption, List, ℕ, ◌+◌, ◌*◌, ◌<◌, ◌≤◌, length, get_or, set}
 use Rattle.std.proofs.Common.{ap, subst, ◌∙◌}
 use Rattle.std.proofs.Math.Decide.{dec_lt}
 use native.Mathlib.Omega.{arith}
@@ -10,8 +10,6 @@ use Rattle.ground.specs.Segment.{Segment, segment-next}
 use Rattle.field.specs.Field.{add, mul}
 use Rattle.rows.specs.Plus.{Plus, plus-cong}
 use Rattle.rows.specs.PlusRows.{PlusRows, rows_next}
-use Rattle.linear.specs.declared.Found.{Found}
-use Rattle.linear.specs.declared.Found.TheVariants.{At, Nothing}
 use Rattle.linear.specs.System.{at}
 use Rattle.linear.specs.Step.{Exchanged, Cleared, factor}
 
@@ -30,12 +28,11 @@ pub record PivotAt (g : List ℕ) (n k p : ℕ) : Type 0 where
   pub nonzero : at g n p k ≢ 0
 
 -- a row with an entry in column k, looked for in every row from row k on
-pub record Pivot (g : List ℕ) (n k : ℕ) (f : Found) : Type 0 where
-  pub found : (p : ℕ) → f ≡ At p → PivotAt g n k p
-  pub nothing : f ≡ Nothing → (r : ℕ) → k ≤ r → r < n → at g n r k ≡ 0
+abbrev pub Pivot : (g : List ℕ) (n k : ℕ) → Option ℕ → Type 0
+Pivot g n k f = MatchOption f ((r : ℕ) → k ≤ r → r < n → at g n r k ≡ 0) (λ p. PivotAt g n k p)
 
-pub pivot-found : {g : List ℕ} {n k p : ℕ} → PivotAt g n k p → Pivot g n k (At p)
-pivot-found {g} {n} {k} {p} a = record { found = λ q e. let p-is : p ≡ q = cc in subst (PivotAt g n k) p-is a; nothing = λ e. absurd (let z : ◌≡◌ {A = ℕ} 0 1 = cc in omega arith) }
+pub pivot-found : {g : List ℕ} {n k p : ℕ} → PivotAt g n k p → Pivot g n k (Some p)
+pivot-found a = a
 
 -- no row from row k up to row p has one
 pub record NoPivot (g : List ℕ) (n k p : ℕ) : Type 0 where
@@ -51,8 +48,8 @@ no-pivot-next {g} {n} {k} {p} a h e =
       none = λ r l b. elim (dec_lt r p) [ yes m ↦ a.none r l m | no m ↦ let r-is : r ≡ p = omega arith in rw r-is e ];
     }
 
-pub pivot-nothing : {g : List ℕ} {n k p : ℕ} → NoPivot g n k p → n ≤ p → Pivot g n k Nothing
-pivot-nothing a h = record { found = λ q e. absurd (let z : ◌≡◌ {A = ℕ} 0 1 = cc in omega arith); nothing = λ e r l b. a.none r l (omega arith) }
+pub pivot-nothing : {g : List ℕ} {n k p : ℕ} → NoPivot g n k p → n ≤ p → Pivot g n k None
+pivot-nothing a h = λ r l b. a.none r l (omega arith)
 
 -- ---- a row that is stored
 

@@ -1,13 +1,12 @@
 -- How far elimination has come in the area: what one step does to it, and what the area says when there is no pivot or no column left.
 -- Rests on Frame, Step and Answer.
-use Rattle.std.specs.Prelude.{◌≡◌, refl, List, ℕ, ◌+◌, ◌*◌, ◌<◌, ◌≤◌, length, get_or}
+use Rattle.std.specs.Prelude.{◌≡◌, refl, Ok, Err, List, ℕ, ◌+◌, ◌*◌, ◌<◌, ◌≤◌, length, get_or}
 use Rattle.std.proofs.Common.{sym, ap₂, subst, ◌∙◌, not-suc-le-zero, arith}
 use Rattle.ground.specs.Segment.{Segment}
 use Rattle.field.specs.Field.{mul, inverse}
 use Rattle.field.specs.Laws.{mul_comm, one-mul, mul-inverse, inverse-lt}
 use Rattle.rows.specs.PlusRows.{PlusRows}
-use Rattle.linear.specs.declared.Outcome.TheVariants.{Solved, Singular}
-use Rattle.linear.specs.System.{at, Area, Eliminated}
+use Rattle.linear.specs.System.{at, Area, Eliminated, singular as singular_error}
 use Rattle.linear.specs.Dot.{same_refl, same-trans}
 use Rattle.linear.specs.Step.{Reduced, factor, Stepped, stepped}
 use Rattle.linear.specs.Answer.{solution, kernel}
@@ -74,19 +73,19 @@ step {g} {t} {u} {h} {n} {k} {p} {x} {s} {old} {new} a red piv x-is s-is e-old e
 
 -- ---- the answers
 
-pub solved : {g h : List ℕ} {n k : ℕ} → Area g n → Progress g n k h → n ≤ k → Eliminated g n Solved h
+pub solved : {g h : List ℕ} {n k : ℕ} → Area g n → Progress g n k h → n ≤ k → Eliminated g n (Ok tt) h
 solved {g} {h} {n} a p l =
     record {
       solved = λ e. solution a (subst (λ i. Stepped n i (at g n) (at h n)) (omega (arith, p.upto)) p.stepped);
-      singular = λ e. absurd (let z : ◌≡◌ {A = ℕ} 0 1 = cc in omega arith);
+      singular = λ e. cc;
       past = p.past;
       long = p.long;
     }
 
-pub singular : {g h : List ℕ} {n k : ℕ} → Progress g n k h → k < n → ((r : ℕ) → k ≤ r → r < n → at h n r k ≡ 0) → Eliminated g n Singular h
+pub singular : {g h : List ℕ} {n k : ℕ} → Progress g n k h → k < n → ((r : ℕ) → k ≤ r → r < n → at h n r k ≡ 0) → Eliminated g n (Err singular_error) h
 singular p l none =
     record {
-      solved = λ e. absurd (let z : ◌≡◌ {A = ℕ} 0 1 = cc in omega arith);
+      solved = λ e. cc;
       singular = λ e. kernel p.stepped l none;
       past = p.past;
       long = p.long;

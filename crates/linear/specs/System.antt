@@ -1,11 +1,10 @@
 -- A system of n equations over GF(16), as elimination finds it in a lent area, and what elimination promises of its answer and of the area.
 -- Row r of n + 1 bytes is equation r: n coefficients, then the right-hand element. Rests on field's products and algebra's sums.
-use Rattle.std.specs.Prelude.{◌≡◌, ◌≢◌, List, ℕ, ◌+◌, ◌*◌, ◌<◌, ◌≤◌, length, get_or}
+use Rattle.std.specs.Prelude.{◌≡◌, ◌≢◌, Result, Ok, Err, List, ℕ, ◌+◌, ◌*◌, ◌<◌, ◌≤◌, length, get_or}
 use Rattle.sets.specs.Sets.{most_row}
 use Rattle.field.specs.Field.{add, mul}
 use Rattle.algebra.specs.Sum.{sum}
-use Rattle.linear.specs.declared.Outcome.{Outcome}
-use Rattle.linear.specs.declared.Outcome.TheVariants.{Solved, Singular}
+use Rattle.linear.specs.declared.Singular.{Singular}
 
 -- entry c of row r; column n is the right-hand side
 unfoldable pub at : List ℕ → ℕ → ℕ → ℕ → ℕ
@@ -37,9 +36,13 @@ pub record Kernel (g : List ℕ) (n : ℕ) : Type 0 where
   pub nonzero : y place ≢ 0
   pub sent : (r : ℕ) → r < n → apply g n y r ≡ 0
 
+-- the one value of Singular
+abbrev pub singular : Singular
+singular = record {}
+
 -- What elimination promises: g is the area at entry, h at exit. A solution stands in column n.
-pub record Eliminated (g : List ℕ) (n : ℕ) (r : Outcome) (h : List ℕ) : Type 0 where
-  pub solved : r ≡ Solved → Solution g n (λ c. at h n c n)
-  pub singular : r ≡ Singular → Kernel g n
+pub record Eliminated (g : List ℕ) (n : ℕ) (r : Result Unit Singular) (h : List ℕ) : Type 0 where
+  pub solved : r ≡ Ok tt → Solution g n (λ c. at h n c n)
+  pub singular : r ≡ Err singular → Kernel g n
   pub past : (k : ℕ) → n * (n + 1) ≤ k → get_or h k 0 ≡ get_or g k 0
   pub long : length h ≡ length g

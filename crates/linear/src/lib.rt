@@ -22,19 +22,9 @@ pub struct Row {
     pub right: u8,
 }
 
-// A row that a search found, or that there is none.
-#[derive(Clone, Copy)]
-pub enum Found {
-    At(usize),
-    Nothing,
-}
-
-// Singular: some vector that is not zero is sent to zero.
-#[derive(Clone, Copy)]
-pub enum Outcome {
-    Solved,
-    Singular,
-}
+// There is no one solution: some vector that is not zero is sent to zero.
+#[derive(Clone, Copy, Debug, PartialEq, Eq)]
+pub struct Singular;
 
 // Entry c of row r.
 fn entry(g: &[u8], n: usize, r: usize, c: usize) -> u8
@@ -45,18 +35,11 @@ fn entry(g: &[u8], n: usize, r: usize, c: usize) -> u8
 }
 
 // The first row, from row k on, whose entry in column k is not zero.
-fn pivot(g: &[u8], n: usize, k: usize) -> Found
+fn pivot(g: &[u8], n: usize, k: usize) -> Option<usize>
     requires { Area g.now n × (k < n) }
     ensures { Pivot g.now n k result }
 {
-    let mut p = k;
-    while p < n {
-        if entry(g, n, p, k) != 0 {
-            return Found::At(p);
-        }
-        p += 1;
-    }
-    Found::Nothing
+    (k..n).find(|p| entry(g, n, *p, k) != 0)
 }
 
 // Row r times s.
@@ -75,12 +58,9 @@ fn store(g: &mut [u8], n: usize, r: usize, row: Row)
     requires { Within g.old n r }
     ensures { Segment g.old (r * (n + 1)) (n + 1) (row_at row n) g.new }
 {
-    let mut c = 0;
-    while c < n {
-        g[r * (n + 1) + c] = row.elements[c];
-        c += 1;
-    }
-    g[r * (n + 1) + n] = row.right;
+    let start = r * (n + 1);
+    g[start..start + n].copy_from_slice(&row.elements[..n]);
+    g[start + n] = row.right;
 }
 
 // What row r gains of row k so that its entry in column k is cleared: row k itself gains nothing.
@@ -96,12 +76,10 @@ fn clear_column(g: &mut [u8], n: usize, k: usize, row: Row)
     requires { (n ≤ most_row) × ((n * (n + 1) ≤ length g.old) × (k ≤ n)) }
     ensures { PlusRows g.old 0 n (n + 1) (λ r c. mul (factor_of k (at g.old n) r) (row_at row n c)) g.new }
 {
-    let mut r = 0;
-    while r < n {
+    for r in 0..n {
         let s = factor(g, n, k, r);
         rows::add_scaled(g, r * (n + 1), &row.elements, 0, n, s);
         g[r * (n + 1) + n] ^= field::mul(s, row.right);
-        r += 1;
     }
 }
 
@@ -119,19 +97,14 @@ fn reduce(g: &mut [u8], n: usize, k: usize, p: usize)
     clear_column(g, n, k, row);
 }
 
-// Elimination: Solved leaves the solution in column n.
-pub fn eliminate(g: &mut [u8], n: usize) -> Outcome
+// Elimination: Ok leaves the solution in column n.
+pub fn eliminate(g: &mut [u8], n: usize) -> Result<(), Singular>
     requires { Area g.old n }
     ensures { Eliminated g.old n result g.new }
 {
-    let mut k = 0;
-    while k < n {
-        let found = pivot(g, n, k);
-        let Found::At(p) = found else {
-            return Outcome::Singular;
-        };
+    for k in 0..n {
+        let p = pivot(g, n, k).ok_or(Singular)?;
         reduce(g, n, k, p);
-        k += 1;
     }
-    Outcome::Solved
+    Ok(())
 }

@@ -3,6 +3,7 @@
 use Rattle.std.specs.Prelude.{Bool, List, [], ◌∷◌, ℕ, ltb}
 use Rattle.ground.specs.Tests.{every}
 use Rattle.ground.specs.Answers.{Rule, unless}
+use Rattle.ground.specs.declared.Refusal.TheVariants.{SetNotAllowed, NotInvertible, AboveFifteen}
 use Rattle.sets.specs.Sets.{from_to, least_l, most_l}
 use Rattle.matrix.specs.Matrix.{Matrix}
 use Rattle.matrix.specs.Invertible.{can_be_invertible}
@@ -21,10 +22,10 @@ coefficients_allowed l a = every l (λ k. ltb (a k) 16)
 
 -- what is refused of coefficients, of a matrix, and of a matrix that is to be made invertible: with an entry above 15 there is no matrix, and 21 is not asked
 abbrev pub coefficient_rules : ℕ → (ℕ → ℕ) → List Rule
-coefficient_rules l a = unless 10 (size_allowed l) ∷ unless 23 (coefficients_allowed l a) ∷ []
+coefficient_rules l a = unless SetNotAllowed (size_allowed l) ∷ unless AboveFifteen (coefficients_allowed l a) ∷ []
 
 abbrev pub matrix_rules : ℕ → Matrix → List Rule
-matrix_rules l M = unless 10 (size_allowed l) ∷ unless 23 (entries_allowed l M) ∷ []
+matrix_rules l M = unless SetNotAllowed (size_allowed l) ∷ unless AboveFifteen (entries_allowed l M) ∷ []
 
 abbrev pub invertible_rules : ℕ → Matrix → List Rule
-invertible_rules l M = unless 10 (size_allowed l) ∷ unless 23 (entries_allowed l M) ∷ unless 21 (can_be_invertible l M) ∷ []
+invertible_rules l M = unless SetNotAllowed (size_allowed l) ∷ unless AboveFifteen (entries_allowed l M) ∷ unless NotInvertible (can_be_invertible l M) ∷ []

@@ -1,38 +1,30 @@
 -- No second outcome meets what a public function of this crate promises.
 -- Rests on ground's Outcome.
-use Rattle.std.specs.Prelude.{◌≡◌, List, ℕ}
-use Rattle.std.proofs.Common.{sym, ◌∙◌}
-use Rattle.std.proofs.Math.Decide.{ℕ_discrete}
+use Rattle.std.specs.Prelude.{◌≡◌, List, ℕ, Result}
 use Rattle.ground.specs.Pick.{pick}
-use Rattle.ground.specs.Answers.{first}
+use Rattle.ground.specs.AnswerLaws.{unique-gives}
+use Rattle.ground.specs.declared.Refusal.{Refusal}
 use Rattle.ground.specs.Outcome.{unique-equation}
 use Rattle.matrix.specs.Matrix.{add_m, mul_m, transpose, scale_m}
 use Rattle.matrix.specs.RingElements.{one_m, S, power_s, last_coefficient, coefficient, algorithm1}
 use Rattle.matrix.specs.Determinant.{det}
 use Rattle.matrix.specs.Block.{view, inside, block}
-use Rattle.matrix.specs.Limits.{matrix_rules}
 use Rattle.matrix.specs.Promises.{coefficients, Makes, RingElement, MadeInvertible, DeterminantOf}
-use Rattle.matrix.specs.declared.Made.{Made}
-use Rattle.matrix.specs.declared.Value.{Value}
 
 -- ---- the functions for everybody
 
--- the answer, and the block beside it
-pub unique-makes : {n : ℕ} {result : List ℕ} {r r' : Made} → Makes n result r → Makes n result r' → (r.answer ≡ r'.answer) × (r.block ≡ r'.block)
-unique-makes {n} a b = (
-  a.answer ∙ sym b.answer,
-  elim (ℕ_discrete n 0) [ yes e ↦ a.done e ∙ sym (b.done e) | no e ↦ a.refused e ∙ sym (b.refused e) ],
-)
+-- the refusal, or the block that was made
+pub unique-makes : {n : ℕ} {result : List ℕ} {r r' : Result (List ℕ) Refusal} → Makes n result r → Makes n result r' → r ≡ r'
+unique-makes = unique-gives
 
-pub unique-ring-element : (l : ℕ) (a : List ℕ) {r r' : Made} → RingElement l a r → RingElement l a r' → (r.answer ≡ r'.answer) × (r.block ≡ r'.block)
+pub unique-ring-element : (l : ℕ) (a : List ℕ) {r r' : Result (List ℕ) Refusal} → RingElement l a r → RingElement l a r' → r ≡ r'
 unique-ring-element l a = unique-makes
 
-pub unique-make-invertible : (l : ℕ) (m : List ℕ) {r r' : Made} → MadeInvertible l m r → MadeInvertible l m r' → (r.answer ≡ r'.answer) × (r.block ≡ r'.block)
+pub unique-make-invertible : (l : ℕ) (m : List ℕ) {r r' : Result (List ℕ) Refusal} → MadeInvertible l m r → MadeInvertible l m r' → r ≡ r'
 unique-make-invertible l m = unique-makes
 
-pub unique-determinant-of : (l : ℕ) (m : List ℕ) {r r' : Value} → DeterminantOf l m r → DeterminantOf l m r' → r ≡ r'
-unique-determinant-of l m a b =
-    elim (ℕ_discrete (first (matrix_rules l (view m))) 0) [ yes e ↦ a.done e ∙ sym (b.done e) | no e ↦ a.refused e ∙ sym (b.refused e) ]
+pub unique-determinant-of : (l : ℕ) (m : List ℕ) {r r' : Result ℕ Refusal} → DeterminantOf l m r → DeterminantOf l m r' → r ≡ r'
+unique-determinant-of l m = unique-gives
 
 -- ---- the functions for our own crates: each promises an equation with a definition
 

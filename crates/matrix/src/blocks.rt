@@ -1,6 +1,7 @@
 // A block holds a matrix: STRIDE rows of STRIDE bytes for every l; bytes outside l are 0. The row stride and the size stand here alone (specs/Block.antt has the same).
-ghost use Rattle.std.specs.Prelude.{◌≡◌, ◌<◌};
+ghost use Rattle.std.specs.Prelude.{◌≡◌, ℕ, ◌<◌};
 ghost use Rattle.ground.specs.Pick.{pick};
+ghost use Rattle.matrix.specs.Matrix.{Matrix};
 ghost use Rattle.matrix.specs.Block.{view, block, stride};
 ghost use Rattle.matrix.specs.Block.{inside as is_inside};
 ghost use Rattle.matrix.specs.Promises.{no_block};
@@ -27,26 +28,39 @@ pub fn inside(l: usize, e: usize) -> bool
 }
 
 // x where byte e stands inside l, else 0.
+// One select: no plainer.
 pub fn within(l: usize, e: usize, x: u8) -> u8
     ensures { result ≡ pick (is_inside l e) x 0 }
 {
     if inside(l, e) { x } else { 0 }
 }
 
-// What stands in place of a block beside a refusal: zeros.
+// The block of zeros.
 pub fn no_block() -> Block
     ensures { result ≡ no_block }
 {
     [0; BYTES]
 }
 
+// The block with f(r, c) at row r, column c inside l, and 0 outside.
+pub fn filled<F: Fn(usize, usize) -> u8>(l: usize, f: F) -> Block
+    requires { (r c : ℕ) → r < l → c < l → r < stride → c < stride → F.pre f r c }
+    ensures { (M : Matrix) → ((r c x : ℕ) → r < l → c < l → r < stride → c < stride → F.post f r c x → x ≡ M r c) → result ≡ block l M }
+{
+    let mut out = [0; BYTES];
+    for e in 0..BYTES {
+        out[e] = if inside(l, e) {
+            f(e / STRIDE, e % STRIDE)
+        } else {
+            0
+        };
+    }
+    out
+}
+
 // The matrix that m holds inside l, with 0 outside.
 pub fn cut(l: usize, m: Block) -> Block
     ensures { result ≡ block l (view m) }
 {
-    let mut out = [0; BYTES];
-    for e in 0..BYTES {
-        out[e] = within(l, e, entry(m, e / STRIDE, e % STRIDE));
-    }
-    out
+    filled(l, |r, c| entry(m, r, c))
 }

@@ -4,10 +4,11 @@ ghost use Rattle.matrix.specs.Determinant.{det, minor};
 ghost use Rattle.matrix.specs.Determinant.{skip as row_left};
 ghost use Rattle.matrix.specs.Block.{view, block, cell, block_bytes, stride};
 
-use super::blocks::{BYTES, Block, STRIDE, entry, inside};
+use super::blocks::{Block, entry, filled};
 use field::{add, mul};
 
 // Row i of what is left when row r is struck out.
+// One select: no plainer.
 fn skip(r: usize, i: usize) -> usize
     requires { i < stride }
     ensures { result ≡ row_left r i }
@@ -15,28 +16,13 @@ fn skip(r: usize, i: usize) -> usize
     if i < r { i } else { i + 1 }
 }
 
-// Byte e of the block of m without row r and without the first column.
-fn minor_entry(n: usize, m: Block, r: usize, e: usize) -> u8
-    requires { (0 < n) × ((n ≤ stride) × (e < block_bytes)) }
-    ensures { result ≡ cell (n - 1) (minor (view m) r) e }
-{
-    if inside(n - 1, e) {
-        entry(m, skip(r, e / STRIDE), e % STRIDE + 1)
-    } else {
-        0
-    }
-}
-
 // The n by n matrix m without row r and without the first column.
+#[tactic(auto, using(crate::proofs::Entries::skip_below), unfolding(crate::specs::Determinant::minor))]
 fn minor_of(n: usize, m: Block, r: usize) -> Block
     requires { (0 < n) × (n ≤ stride) }
     ensures { result ≡ block (n - 1) (minor (view m) r) }
 {
-    let mut out = [0; BYTES];
-    for e in 0..BYTES {
-        out[e] = minor_entry(n, m, r, e);
-    }
-    out
+    filled(n - 1, |i, c| entry(m, skip(r, i), c + 1))
 }
 
 // The determinant of a matrix of size 0, 1 or 2, written out.

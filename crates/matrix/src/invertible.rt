@@ -3,26 +3,14 @@ ghost use Rattle.std.specs.Prelude.{◌≡◌, ◌≤◌, ◌<◌};
 ghost use Rattle.ground.specs.Pick.{pick};
 ghost use Rattle.matrix.specs.Block.{view, block, stride};
 ghost use Rattle.matrix.specs.Invertible.{shift, can_be_invertible, algorithm2};
-ghost use Rattle.matrix.specs.Promises.{no_block, Makes};
+ghost use Rattle.matrix.specs.Promises.{Makes};
 ghost use Rattle.matrix.specs.Trial.{NextTrial};
 
-use super::Made;
 use super::arithmetic::{plus, scaled};
-use super::blocks::{Block, cut, no_block};
+use super::blocks::{Block, cut};
 use super::determinants::determinant;
 use super::ring::s_matrix;
-use ground::Answer;
-
-// A refusal, handed up as it is, with no matrix beside it.
-pub fn refused(answer: Answer) -> Made
-    ensures { (result.answer ≡ answer) × (result.block ≡ no_block) }
-{
-    let zeros = no_block();
-    Made {
-        answer,
-        block: zeros,
-    }
-}
+use ground::Refusal;
 
 // m + a·S.
 pub fn shifted(l: usize, m: Block, a: u8) -> Block
@@ -52,16 +40,12 @@ fn next_trial(l: usize, trial: Trial) -> Trial
 }
 
 // The search of Algorithm 2, from a = 1 on.
-pub fn search(l: usize, m: Block) -> Made
+pub fn search(l: usize, m: Block) -> Result<Block, Refusal>
     requires { l ≤ stride }
     ensures { Makes (pick (can_be_invertible l (view m)) 0 21) (block l (algorithm2 l (view m))) result }
 {
     if determinant(l, m) != 0 {
-        let same = cut(l, m);
-        return Made {
-            answer: Answer::Done,
-            block: same,
-        };
+        return Ok(cut(l, m));
     }
     let first = shifted(l, m, 1);
     let mut trial = Trial {
@@ -69,19 +53,17 @@ pub fn search(l: usize, m: Block) -> Made
         a: 1,
         tried: first,
     };
+    // `loop`, the form that page 01 names for Algorithm 2
     let found = loop {
         let tried = trial.tried;
         if determinant(l, tried) != 0 {
             break tried;
         }
         if trial.a == 15 {
-            return refused(Answer::Refused(21));
+            return Err(Refusal::NotInvertible);
         }
         let next = next_trial(l, trial);
         trial = next;
     };
-    Made {
-        answer: Answer::Done,
-        block: found,
-    }
+    Ok(found)
 }

@@ -7,43 +7,22 @@ ghost use Rattle.matrix.specs.Block.{block, stride};
 ghost use Rattle.matrix.specs.Promises.{coefficients};
 
 use super::arithmetic::{plus, product, scaled};
-use super::blocks::{BYTES, Block, STRIDE, no_block, within};
+use super::blocks::{Block, STRIDE, filled, no_block};
 
-// S has 8 - r - c at row r, column c.
-fn s_entry(r: usize, c: usize) -> u8
-    requires { (r < stride) × (c < stride) }
-    ensures { result ≡ 8 - r - c }
-{
-    (8 - r - c) as u8
-}
-
-// S.
+// S: 8 - r - c at row r, column c.
+#[tactic(auto, using(crate::proofs::Entries::s_inside))]
 pub fn s_matrix(l: usize) -> Block
     ensures { result ≡ block l (S l) }
 {
-    let mut out = [0; BYTES];
-    for e in 0..BYTES {
-        out[e] = within(l, e, s_entry(e / STRIDE, e % STRIDE));
-    }
-    out
-}
-
-// 1 on the diagonal.
-fn one_entry(r: usize, c: usize) -> u8
-    ensures { result ≡ pick (eqb r c) 1 0 }
-{
-    if r == c { 1 } else { 0 }
+    filled(l, |r, c| (8 - r - c) as u8)
 }
 
 // The one: I.
+#[tactic(auto, using(crate::specs::Steps::one_inside))]
 pub fn one(l: usize) -> Block
     ensures { result ≡ block l (one_m l) }
 {
-    let mut out = [0; BYTES];
-    for e in 0..BYTES {
-        out[e] = within(l, e, one_entry(e / STRIDE, e % STRIDE));
-    }
-    out
+    filled(l, |r, c| u8::from(r == c))
 }
 
 // S to the k.
@@ -61,6 +40,7 @@ pub fn s_power(l: usize, k: usize) -> Block
 }
 
 // Algorithm 1's rule for the last coefficient: if it is 0 it becomes 16 - a0, or 15 if a0 is 0.
+// Two selects, in the words of Algorithm 1: no plainer.
 pub fn last_coefficient(own: u8, a0: u8) -> u8
     requires { a0 < 16 }
     ensures { result ≡ last_coefficient own a0 }

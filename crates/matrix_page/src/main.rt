@@ -2,8 +2,8 @@
 // A line of an algorithm has the answer's number first and then the four entries, row by row.
 #![tactic(auto)]
 
-use ground::number;
-use matrix::{Made, Value, determinant_of, make_invertible, ring_element, s_power};
+use ground::Refusal;
+use matrix::{BYTES, Block, determinant_of, make_invertible, ring_element, s_power};
 use std::io;
 
 // Writes a number, after a space.
@@ -11,39 +11,40 @@ fn put(rt: &impl Print, n: u32) -> io::Result<()> {
     print!(rt; " {n}")
 }
 
-fn end(rt: &impl Print) -> io::Result<()> {
+// Writes four elements, and ends the line.
+fn put_four(rt: &impl Print, elements: [u8; 4]) -> io::Result<()> {
+    for x in elements {
+        put(rt, u32::from(x))?;
+    }
     println!(rt)
-}
-
-// Writes four elements.
-fn put_four(rt: &impl Print, a: u8, b: u8, c: u8, d: u8) -> io::Result<()> {
-    put(rt, a as u32)?;
-    put(rt, b as u32)?;
-    put(rt, c as u32)?;
-    put(rt, d as u32)?;
-    end(rt)
 }
 
 // Writes the four entries of a 2 by 2 matrix, row by row.
 fn put_two(rt: &impl Print, m: [u8; 25]) -> io::Result<()> {
-    put_four(rt, m[0], m[1], m[5], m[6])
+    put_four(rt, [m[0], m[1], m[5], m[6]])
 }
 
-// Writes the number of an answer, and the 2 by 2 matrix beside it.
-fn put_made(rt: &impl Print, made: Made) -> io::Result<()> {
-    let answer = made.answer;
-    let block = made.block;
-    put(rt, number(answer))?;
-    put_two(rt, block)
+// Writes an answer's number and the 2 by 2 matrix that was made, or zeros beside a refusal.
+fn put_made(rt: &impl Print, made: Result<Block, Refusal>) -> io::Result<()> {
+    match made {
+        Ok(block) => {
+            put(rt, 0)?;
+            put_two(rt, block)
+        }
+        Err(refusal) => {
+            put(rt, u32::from(refusal))?;
+            put_two(rt, [0; BYTES])
+        }
+    }
 }
 
 // Writes a determinant, or a refusal's number.
-fn put_value(rt: &impl Print, value: Value) -> io::Result<()> {
+fn put_value(rt: &impl Print, value: Result<u8, Refusal>) -> io::Result<()> {
     match value {
-        Value::Is(x) => put(rt, x as u32)?,
-        Value::Refused(n) => put(rt, n)?,
+        Ok(x) => put(rt, u32::from(x))?,
+        Err(refusal) => put(rt, u32::from(refusal))?,
     }
-    end(rt)
+    println!(rt)
 }
 
 // The 2 by 2 matrix of four entries.
@@ -69,7 +70,7 @@ fn powers(rt: &impl Print) -> io::Result<()> {
 fn first_row(rt: &impl Print) -> io::Result<()> {
     let square = s_power(4, 2);
     print!(rt; "first row of S squared, l = 4:")?;
-    put_four(rt, square[0], square[1], square[2], square[3])
+    put_four(rt, [square[0], square[1], square[2], square[3]])
 }
 
 // Algorithm 1 at the coefficients (a, 0).

@@ -1,20 +1,20 @@
 -- What the first sentence says of one call, in page 01's numbers, and that each kind of promise gives it: done or refused, the verdict, signing.
 -- Rests on ground's First and on the contracts' records of the crates below.
-use Rattle.std.specs.Prelude.{◌≡◌, refl, Bool, true, false, ◌↔◌, ◌⊎◌, ℕ, ◌<◌, ◌≤◌, T, length}
+use Rattle.std.specs.Prelude.{◌≡◌, Result, Ok, Err, refl, Bool, true, false, ◌↔◌, ◌⊎◌, ℕ, ◌<◌, ◌≤◌, T, length}
 use Rattle.std.proofs.Common.{sym, ap, ap₂, subst, ◌∙◌, inl, inr, ⊎_elim, arith, eq-eqb, ne_eqb}
 use mathlib.Core.List.Memᴰ
 use mathlib.Core.List.{List, [], ◌∷◌, ◌++◌, Memᴰ}
 use Rattle.std.proofs.Math.Decide.{ℕ_discrete}
-use Rattle.ground.specs.Answers.{Rule, Met, first, number_of, answer_of}
+use Rattle.ground.specs.Answers.{Answer, Gives, Rule, Met, first, number_of}
+use Rattle.ground.specs.declared.Refusal.{Refusal}
 use Rattle.ground.specs.Outcome.{Writes}
-use Rattle.ground.specs.declared.Answer.{Answer}
 use Rattle.sets.specs.declared.Set.{Set}
 use Rattle.ground.specs.First.{First, numbers, above, first-exactly, none-exactly, first_above, first-listed}
-use Rattle.ground.specs.AnswerLaws.{number-of-answer}
 use Rattle.ground.specs.Applies.{Lowest, rising, lowest-exactly}
 use Rattle.verdict.specs.declared.Verdict.{Verdict}
 use Rattle.verdict.specs.Promise.{verdict_of}
 use Rattle.verdict.specs.Promise.{number_of as verdict_number}
+use Rattle.model.specs.Accepted.{verdict-refused}
 use Rattle.rows.specs.Zero.{zeros}
 use Rattle.signing.specs.declared.Signing.{Signing}
 use Rattle.signing.specs.declared.Signing.TheVariants.{Done, Redo}
@@ -83,15 +83,12 @@ answered-lowest refusals up a k h =
 pub writes-answered : (refusals : List Rule) → T (above 9 refusals) → {result before after : List ℕ} {r : Answer}
     → Writes (first refusals) result before r after → Answered (0 ∷ numbers refusals) refusals (number_of r) (before ∷ []) (after ∷ [])
 writes-answered refusals up w =
-    let number = ap number_of w.answer ∙ number-of-answer (first refusals) in
-    answered (0 ∷ []) refusals up (λ z. number) (λ z. (Memᴰ.head (number ∙ z), omega (arith, number, z))) (λ z. ap (λ s. s ∷ []) (w.refused z))
+    answered (0 ∷ []) refusals up (λ z. w.answer) (λ z. (Memᴰ.head (w.answer ∙ z), omega (arith, w.answer, z))) (λ z. ap (λ s. s ∷ []) (w.refused z))
 
 -- done or refused, and nothing is written
-pub status-answered : (refusals : List Rule) → T (above 9 refusals) → {r : Answer} → r ≡ answer_of (first refusals)
-    → Answered (0 ∷ numbers refusals) refusals (number_of r) [] []
+pub status-answered : (refusals : List Rule) → T (above 9 refusals) → {n : ℕ} → n ≡ first refusals → Answered (0 ∷ numbers refusals) refusals n [] []
 status-answered refusals up e =
-    let number = ap number_of e ∙ number-of-answer (first refusals) in
-    answered (0 ∷ []) refusals up (λ z. number) (λ z. (Memᴰ.head (number ∙ z), omega (arith, number, z))) (λ z. refl)
+    answered (0 ∷ []) refusals up (λ z. e) (λ z. (Memᴰ.head (e ∙ z), omega (arith, e, z))) (λ z. refl)
 
 -- a number that is 0 where nothing is refused, and nothing is written
 pub value-answered : (refusals : List Rule) → T (above 9 refusals) → {n : ℕ} → ((first refusals ≡ 0 → ⊥) → n ≡ first refusals) → (first refusals ≡ 0 → n ≡ 0)
@@ -100,39 +97,44 @@ value-answered refusals up is done = answered (0 ∷ []) refusals up is (λ z. (
 
 -- ---- the verdict
 
-verdict-refused : {n : ℕ} (ok : Bool) → (n ≡ 0 → ⊥) → verdict_number (verdict_of n ok) ≡ n
-verdict-refused {n} ok z = rw (ne_eqb n 0 z)
+verdict-passed : (ok : Bool) {r : Result Verdict Refusal} → r ≡ Ok (verdict_of ok) → Memᴰ (verdict_number r) (0 ∷ 1 ∷ []) × (verdict_number r < 10)
+verdict-passed true e = rw e (Memᴰ.head refl, omega arith)
+verdict-passed false e = rw e (Memᴰ.tail (Memᴰ.head refl), omega arith)
 
-verdict-passed : {n : ℕ} (ok : Bool) → n ≡ 0 → Memᴰ (verdict_number (verdict_of n ok)) (0 ∷ 1 ∷ []) × (verdict_number (verdict_of n ok) < 10)
-verdict-passed {n} true z = rw (eq-eqb n 0 z) (Memᴰ.head refl, omega arith)
-verdict-passed {n} false z = rw (eq-eqb n 0 z) (Memᴰ.tail (Memᴰ.head refl), omega arith)
-
-pub verdict-answered : (refusals : List Rule) → T (above 9 refusals) → {r : Verdict} (ok : Bool) → r ≡ verdict_of (first refusals) ok
+pub verdict-answered : (refusals : List Rule) → T (above 9 refusals) → {r : Result Verdict Refusal} (ok : Bool) → Gives (first refusals) (verdict_of ok) r
     → Answered (0 ∷ 1 ∷ numbers refusals) refusals (verdict_number r) [] []
-verdict-answered refusals up ok e =
-    subst (λ v. Answered (0 ∷ 1 ∷ numbers refusals) refusals (verdict_number v) [] []) (sym e)
-    (answered (0 ∷ 1 ∷ []) refusals up (verdict-refused ok) (verdict-passed ok) (λ z. refl))
+verdict-answered refusals up {r} ok v =
+    answered (0 ∷ 1 ∷ []) refusals up (λ z. verdict-refused r (λ w. z (sym v.number ∙ w)) ∙ v.number) (λ z. verdict-passed ok (v.done z)) (λ z. refl)
 
 -- ---- signing
 
-module _ {set : Set} {public abq private vinegar target salt work output : List ℕ} {r : Signing} {work' output' : List ℕ}
+module _ {set : Set} {public abq private vinegar target salt work output : List ℕ} {r : Result Signing Refusal} {work' output' : List ℕ}
     (a : Signs set public abq private vinegar target salt work output r work' output') where
+  -- a refusal's number is its own
+  sign-refused : (first (sign_refusals set public abq private vinegar target salt work output) ≡ 0 → ⊥)
+      → sign_number r ≡ first (sign_refusals set public abq private vinegar target salt work output)
+  sign-refused z = by r (λ w. z (sym (a.refused z).0 ∙ w)) ∙ (a.refused z).0
+    where
+      by : (r : Result Signing Refusal) → (number_of r ≡ 0 → ⊥) → sign_number r ≡ number_of r
+      by (Ok s) some = absurd (some refl)
+      by (Err e) some = refl
+
   -- 0 is done, and 2 where nothing is refused is redo
-  pub sign-done : sign_number r ≡ 0 → r ≡ Done
+  pub sign-done : sign_number r ≡ 0 → r ≡ Ok Done
   sign-done e =
       elim (ℕ_discrete (first (sign_refusals set public abq private vinegar target salt work output)) 0) [
         | yes z ↦ ⊎_elim (λ d. d) (λ d. absurd (omega (arith, sym (ap sign_number d) ∙ e))) (a.answered z)
-        | no z ↦ absurd (z (sym (ap sign_number (a.refused z).0) ∙ e))
+        | no z ↦ absurd (z (sym (sign-refused z) ∙ e))
       ]
 
-  pub sign-redo : first (sign_refusals set public abq private vinegar target salt work output) ≡ 0 → sign_number r ≡ 2 → r ≡ Redo
+  pub sign-redo : first (sign_refusals set public abq private vinegar target salt work output) ≡ 0 → sign_number r ≡ 2 → r ≡ Ok Redo
   sign-redo z e = ⊎_elim (λ d. absurd (omega (arith, sym (ap sign_number d) ∙ e))) (λ d. d) (a.answered z)
 
   pub sign-answered : T (above 9 (sign_refusals set public abq private vinegar target salt work output))
       → Answered (0 ∷ 2 ∷ numbers (sign_refusals set public abq private vinegar target salt work output))
       (sign_refusals set public abq private vinegar target salt work output) (sign_number r) (work ∷ output ∷ []) (work' ∷ output' ∷ [])
   sign-answered up =
-      answered (0 ∷ 2 ∷ []) (sign_refusals set public abq private vinegar target salt work output) up (λ z. ap sign_number (a.refused z).0)
+      answered (0 ∷ 2 ∷ []) (sign_refusals set public abq private vinegar target salt work output) up sign-refused
       (λ z. ⊎_elim
       (λ d. (Memᴰ.head (ap sign_number d), omega (arith, ap sign_number d)))
       (λ d. (Memᴰ.tail (Memᴰ.head (ap sign_number d)), omega (arith, ap sign_number d)))

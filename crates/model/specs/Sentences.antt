@@ -1,13 +1,11 @@
 -- The user's three sentences, as theorems of what the public functions promise: Generates, Signs, Verifies, SaltStatus, Packs, Unpacks, and the three of matrix.
 -- A call's answer is r; a name with a dash is the buffer after the call. Rests on Answered and Accepted, which prove them.
-use Rattle.std.specs.Prelude.{◌≡◌, refl, ◌↔◌, ◌⊎◌, List, [], ◌∷◌, ◌++◌, ℕ, ◌-◌, ◌<◌, ◌≤◌, length}
+use Rattle.std.specs.Prelude.{◌≡◌, Result, Ok, refl, ◌↔◌, ◌⊎◌, List, [], ◌∷◌, ◌++◌, ℕ, ◌-◌, ◌<◌, ◌≤◌, length}
 use Rattle.std.proofs.Common.{sym, ap, ap₂, subst, ◌∙◌, mod-eq_of_lt, arith}
 use Rattle.std.proofs.Math.Decide.{ℕ_discrete}
 use Rattle.std.specs.Int.Bits.{bit_xor}
-use Rattle.ground.specs.Answers.{Met, first, number_of}
-use Rattle.ground.specs.declared.Answer.{Answer}
-use Rattle.ground.specs.declared.Answer.TheVariants as Answers
-use Rattle.ground.specs.AnswerLaws.{number-of-answer}
+use Rattle.ground.specs.Answers.{Answer, Gives, Met, first, number_of}
+use Rattle.ground.specs.declared.Refusal.{Refusal}
 use Rattle.ground.specs.First.{First, none-exactly}
 use Rattle.ground.specs.Applies.{Lowest, lowest-exactly}
 use Rattle.ground.specs.Fill.{tab}
@@ -26,10 +24,7 @@ use Rattle.matrix.specs.Determinant.{det}
 use Rattle.matrix.specs.Invertible.{algorithm2}
 use Rattle.matrix.specs.Block.{view, block}
 use Rattle.matrix.specs.Limits.{coefficient_rules, matrix_rules, invertible_rules}
-use Rattle.matrix.specs.Promises.{coefficients, Makes, RingElement, MadeInvertible, DeterminantOf, value_number}
-use Rattle.matrix.specs.declared.Made.{Made}
-use Rattle.matrix.specs.declared.Value.{Value}
-use Rattle.matrix.specs.declared.Value.TheVariants.{Is}
+use Rattle.matrix.specs.Promises.{coefficients, Makes, RingElement, MadeInvertible, DeterminantOf}
 use Rattle.scheme.specs.Streams.{P22, target_of, vinegar_of, signature_of}
 use Rattle.scheme.specs.Maps.{key_p22, key_of, public_map, central_map, private_change}
 use Rattle.scheme.proofs.Composition.{private-change-own-inverse}
@@ -52,7 +47,7 @@ use Rattle.signing.specs.Signs.{number_of as sign_number}
 use Rattle.signing.specs.Unique.{redo-exactly}
 use Rattle.verdict.specs.Promise.{Verifies}
 use Rattle.salt.specs.Salt.{salt_refusal, salt_of, SaltStatus, salt-empty}
-use Rattle.model.specs.Answered.{Answered, writes-answered, status-answered, value-answered, verdict-answered, sign-answered, sign-wiped, sign_kept, sign-done, sign-redo}
+use Rattle.model.specs.Answered.{Answered, writes-answered, status-answered, verdict-answered, sign-answered, sign-wiped, sign_kept, sign-done, sign-redo}
 use Rattle.model.specs.Accepted.{answer-zero, written-zero, verdict-zero, emitted-verdict}
 
 -- 1. Every call is answered by one of the page's numbers. A refusal is given exactly where it is the first in the operation's order that applies, and leaves every
@@ -60,27 +55,27 @@ use Rattle.model.specs.Accepted.{answer-zero, written-zero, verdict-zero, emitte
 pub record Sentence1 : Type 0 where
   pub generate : (set : Set) (public private key : List ℕ) (r : Answer) (key' : List ℕ) → Generates set public private key r key'
       → Answered (0 ∷ 10 ∷ 11 ∷ 13 ∷ 20 ∷ []) (keygen_refusals set public private key) (number_of r) (key ∷ []) (key' ∷ [])
-  pub sign : (set : Set) (public abq private vinegar target salt work output : List ℕ) (r : Signing) (work' output' : List ℕ)
+  pub sign : (set : Set) (public abq private vinegar target salt work output : List ℕ) (r : Result Signing Refusal) (work' output' : List ℕ)
       → Signs set public abq private vinegar target salt work output r work' output'
       → Answered (0 ∷ 2 ∷ 10 ∷ 11 ∷ 12 ∷ 13 ∷ 14 ∷ 15 ∷ 17 ∷ 19 ∷ 20 ∷ 21 ∷ []) (sign_refusals set public abq private vinegar target salt work output)
       (sign_number r) (work ∷ output ∷ []) (work' ∷ output' ∷ [])
-  pub wiped : (set : Set) (public abq private vinegar target salt work output : List ℕ) (r : Signing) (work' output' : List ℕ)
+  pub wiped : (set : Set) (public abq private vinegar target salt work output : List ℕ) (r : Result Signing Refusal) (work' output' : List ℕ)
       → Signs set public abq private vinegar target salt work output r work' output' → (sign_number r ≡ 0) ⊎ (sign_number r ≡ 2)
       → work' ≡ zeros (length work)
-  pub redo-kept : (set : Set) (public abq private vinegar target salt work output : List ℕ) (r : Signing) (work' output' : List ℕ)
+  pub redo-kept : (set : Set) (public abq private vinegar target salt work output : List ℕ) (r : Result Signing Refusal) (work' output' : List ℕ)
       → Signs set public abq private vinegar target salt work output r work' output' → sign_number r ≡ 2 → output' ≡ output
-  pub verify : (set : Set) (public abq target key signature : List ℕ) (r : Verdict) → Verifies set public abq target key signature r
+  pub verify : (set : Set) (public abq target key signature : List ℕ) (r : Result Verdict Refusal) → Verifies set public abq target key signature r
       → Answered (0 ∷ 1 ∷ 10 ∷ 11 ∷ 12 ∷ 15 ∷ 16 ∷ 18 ∷ 21 ∷ []) (verdict_refusals set public abq target key signature) (verdict_number r) [] []
   pub salt-status : (set : Set) (signature : List ℕ) (r : Answer) → SaltStatus set signature r
       → Answered (0 ∷ 10 ∷ 18 ∷ []) (salt_rules set (length signature)) (number_of r) [] []
   -- the part handed back as the salt is empty where set or length is refused
   pub salt-part : (set : Set) (signature : List ℕ) (r : Answer) → SaltStatus set signature r → 10 ≤ number_of r → salt_of set signature ≡ []
   -- the helpers of matrix: a size outside the limits, an entry above 15, a matrix that cannot be made invertible
-  pub ring-element : (l : ℕ) (a : List ℕ) (r : Made) → RingElement l a r
-      → Answered (0 ∷ 10 ∷ 23 ∷ []) (coefficient_rules l (coefficients a)) (number_of r.answer) [] []
-  pub make-invertible : (l : ℕ) (m : List ℕ) (r : Made) → MadeInvertible l m r
-      → Answered (0 ∷ 10 ∷ 23 ∷ 21 ∷ []) (invertible_rules l (view m)) (number_of r.answer) [] []
-  pub determinant : (l : ℕ) (m : List ℕ) (r : Value) → DeterminantOf l m r → Answered (0 ∷ 10 ∷ 23 ∷ []) (matrix_rules l (view m)) (value_number r) [] []
+  pub ring-element : (l : ℕ) (a : List ℕ) (r : Result (List ℕ) Refusal) → RingElement l a r
+      → Answered (0 ∷ 10 ∷ 23 ∷ []) (coefficient_rules l (coefficients a)) (number_of r) [] []
+  pub make-invertible : (l : ℕ) (m : List ℕ) (r : Result (List ℕ) Refusal) → MadeInvertible l m r
+      → Answered (0 ∷ 10 ∷ 23 ∷ 21 ∷ []) (invertible_rules l (view m)) (number_of r) [] []
+  pub determinant : (l : ℕ) (m : List ℕ) (r : Result ℕ Refusal) → DeterminantOf l m r → Answered (0 ∷ 10 ∷ 23 ∷ []) (matrix_rules l (view m)) (number_of r) [] []
   pub pack : (elements bytes : List ℕ) (r : Answer) (bytes' : List ℕ) → Packs elements bytes r bytes'
       → Answered (0 ∷ 22 ∷ 23 ∷ []) (pack_rules elements bytes) (number_of r) (bytes ∷ []) (bytes' ∷ [])
   pub unpack : (bytes elements : List ℕ) (r : Answer) (elements' : List ℕ) → Unpacks bytes elements r elements'
@@ -88,7 +83,7 @@ pub record Sentence1 : Type 0 where
   -- 0 leaves the whole output written
   pub key-written : (set : Set) (public private key : List ℕ) (r : Answer) (key' : List ℕ) → Generates set public private key r key' → number_of r ≡ 0
       → key' ≡ key_of set public private
-  pub signature-written : (set : Set) (public abq private vinegar target salt work output : List ℕ) (r : Signing) (work' output' : List ℕ)
+  pub signature-written : (set : Set) (public abq private vinegar target salt work output : List ℕ) (r : Result Signing Refusal) (work' output' : List ℕ)
       → Signs set public abq private vinegar target salt work output r work' output' → sign_number r ≡ 0 → Emitted set public abq private vinegar target salt output'
   pub pack-written : (elements bytes : List ℕ) (r : Answer) (bytes' : List ℕ) → Packs elements bytes r bytes' → number_of r ≡ 0 → bytes' ≡ packed elements
   pub unpack-written : (bytes elements : List ℕ) (r : Answer) (elements' : List ℕ) → Unpacks bytes elements r elements' → number_of r ≡ 0
@@ -129,19 +124,19 @@ pub record Sentence2 : Type 0 where
   pub field-zero : inverse 0 ≡ 0
   -- S, Algorithm 1, the determinant and Algorithm 2, as the three functions give them with 0
   pub S-is : (l r c : ℕ) → r < l → c < l → S l r c ≡ 8 - r - c
-  pub ring-element : (l : ℕ) (a : List ℕ) (r : Made) → RingElement l a r → number_of r.answer ≡ 0 → r.block ≡ block l (algorithm1 l (coefficients a))
-  pub determinant : (l : ℕ) (m : List ℕ) (r : Value) → DeterminantOf l m r → value_number r ≡ 0 → r ≡ Is (det l (view m))
-  pub made-invertible : (l : ℕ) (m : List ℕ) (r : Made) → MadeInvertible l m r → number_of r.answer ≡ 0 → r.block ≡ block l (algorithm2 l (view m))
+  pub ring-element : (l : ℕ) (a : List ℕ) (r : Result (List ℕ) Refusal) → RingElement l a r → number_of r ≡ 0 → r ≡ Ok (block l (algorithm1 l (coefficients a)))
+  pub determinant : (l : ℕ) (m : List ℕ) (r : Result ℕ Refusal) → DeterminantOf l m r → number_of r ≡ 0 → r ≡ Ok (det l (view m))
+  pub made-invertible : (l : ℕ) (m : List ℕ) (r : Result (List ℕ) Refusal) → MadeInvertible l m r → number_of r ≡ 0 → r ≡ Ok (block l (algorithm2 l (view m)))
   -- the key's bytes, and each of its entries
   pub key-bytes : (set : Set) (public private key : List ℕ) (r : Answer) (key' : List ℕ) → Generates set public private key r key' → number_of r ≡ 0
       → key' ≡ key_of set public private
   -- signing
-  pub signed : (set : Set) (public abq private vinegar target salt work output : List ℕ) (r : Signing) (work' output' : List ℕ)
+  pub signed : (set : Set) (public abq private vinegar target salt work output : List ℕ) (r : Result Signing Refusal) (work' output' : List ℕ)
       → Signs set public abq private vinegar target salt work output r work' output' → sign_number r ≡ 0
       → SignatureHolds set public abq private vinegar target salt output'
   pub key : (set : Set) (public private key : List ℕ) (r : Answer) (key' : List ℕ) → Generates set public private key r key' → number_of r ≡ 0
       → (i j k : ℕ) → i < set.o → j < set.o → k < set.o → Same set.l (P22 set key' i j k) (key_p22 set public private i j k)
-  pub accepted : (set : Set) (public abq target key signature : List ℕ) (r : Verdict) → Verifies set public abq target key signature r
+  pub accepted : (set : Set) (public abq target key signature : List ℕ) (r : Result Verdict Refusal) → Verifies set public abq target key signature r
       → (verdict_number r ≡ 0) ↔ (Met (verdict_refusals set public abq target key signature) × EveryEntryEqual set public abq target key signature)
   pub unpacked : (elements bytes : List ℕ) (r : Answer) (bytes' : List ℕ) → Packs elements bytes r bytes' → number_of r ≡ 0
       → (room : List ℕ) (r' : Answer) (room' : List ℕ) → Unpacks bytes' room r' room' → length room ≡ length elements → (number_of r' ≡ 0) × (room' ≡ elements)
@@ -153,10 +148,10 @@ pub record Sentence3 : Type 0 where
   pub composition : (set : Set) (public private key : List ℕ) (r : Answer) (key' : List ℕ) → Generates set public private key r key' → number_of r ≡ 0
       → (abq : List ℕ) (U : ℕ → Matrix) (i : ℕ) → i < set.o
       → Same set.l (public_map set public abq key' U i) (central_map set public abq private (private_change set private U) i)
-  pub accepted : (set : Set) (public abq private vinegar target salt work key output work' key' signature : List ℕ) (r : Verdict)
-      → Generates set public private key Answers.Done key' → Signs set public abq private vinegar target salt work output Signings.Done work' signature
-      → Verifies set public abq target key' signature r → r ≡ Verdicts.Accepted
-  pub redo : (set : Set) (public abq private vinegar target salt work output : List ℕ) (r : Signing) (work' output' : List ℕ)
+  pub accepted : (set : Set) (public abq private vinegar target salt work key output work' key' signature : List ℕ) (r : Result Verdict Refusal)
+      → Generates set public private key (Ok tt) key' → Signs set public abq private vinegar target salt work output (Ok Signings.Done) work' signature
+      → Verifies set public abq target key' signature r → r ≡ Ok Verdicts.Accepted
+  pub redo : (set : Set) (public abq private vinegar target salt work output : List ℕ) (r : Result Signing Refusal) (work' output' : List ℕ)
       → Signs set public abq private vinegar target salt work output r work' output'
       → Met (sign_refusals set public abq private vinegar target salt work output)
       → (sign_number r ≡ 2) ↔ Redo set public abq private (vinegar_of set vinegar)
@@ -174,10 +169,10 @@ sentence-1 = record {
       verdict-answered (verdict_refusals set public abq target key signature) tt (accepted_test set public abq key signature target) v;
   salt-status = λ set signature r e. status-answered (salt_rules set (length signature)) tt e;
   salt-part = λ set signature r e high.
-      salt-empty set signature (λ z. let number = ap number_of e ∙ number-of-answer (salt_refusal set signature) in omega (arith, number, z));
-  ring-element = λ l a r m. status-answered (coefficient_rules l (coefficients a)) tt m.answer;
-  make-invertible = λ l a r m. status-answered (invertible_rules l (view a)) tt m.answer;
-  determinant = λ l m r d. value-answered (matrix_rules l (view m)) tt (λ z. ap value_number (d.refused z)) (λ z. ap value_number (d.done z));
+      salt-empty set signature (λ z. omega (arith, e, z, high));
+  ring-element = λ l a r m. status-answered (coefficient_rules l (coefficients a)) tt m.number;
+  make-invertible = λ l a r m. status-answered (invertible_rules l (view a)) tt m.number;
+  determinant = λ l m r d. status-answered (matrix_rules l (view m)) tt d.number;
   pack = λ elements bytes r bytes' p. writes-answered (pack_rules elements bytes) tt p;
   unpack = λ bytes elements r elements' u. writes-answered (unpack_rules bytes elements) tt u;
   key-written = λ set public private key r key' g e. written-zero g e;
@@ -212,16 +207,9 @@ holds_of set public abq private vinegar target salt signature e = record {
   bytes = e.bytes;
 }
 
--- a block that was made with 0
-made-zero : {n : ℕ} {result : List ℕ} {r : Made} → Makes n result r → number_of r.answer ≡ 0 → r.block ≡ result
-made-zero {n} m e = m.done (sym (number-of-answer n) ∙ sym (ap number_of m.answer) ∙ e)
-
-value-zero : (l : ℕ) (m : List ℕ) (r : Value) → DeterminantOf l m r → value_number r ≡ 0 → r ≡ Is (det l (view m))
-value-zero l m r d e =
-    elim (ℕ_discrete (first (matrix_rules l (view m))) 0) [
-      | yes z ↦ d.done z
-      | no z ↦ absurd (z (sym (ap value_number (d.refused z)) ∙ e))
-    ]
+-- what was made with 0
+made-zero : {A : Type 0} {n : ℕ} {value : A} {r : Result A Refusal} → Gives n value r → number_of r ≡ 0 → r ≡ Ok value
+made-zero m e = m.done (sym m.number ∙ e)
 
 pub sentence-2 : Sentence2
 unfolding verdict_refusals verdict_rules add S
@@ -232,7 +220,7 @@ sentence-2 = record {
   field-zero = inverse-zero;
   S-is = λ l r c hr hc. ap₂ (λ x y. 8 - x - y) (mod-eq_of_lt hr) (mod-eq_of_lt hc);
   ring-element = λ l a r m e. made-zero m e;
-  determinant = value-zero;
+  determinant = λ l m r d e. made-zero d e;
   made-invertible = λ l a r m e. made-zero m e;
   key-bytes = λ set public private key r key' g e. written-zero g e;
   signed = λ set public abq private vinegar target salt work output r work' output' s e.
@@ -241,12 +229,11 @@ sentence-2 = record {
       subst (λ s. Same set.l (P22 set s i j k) (key_p22 set public private i j k)) (sym (written-zero g e)) (key_of-holds set public private i j k hi hj hk);
   accepted = λ set public abq target key signature r v.
       let rules = verdict_refusals set public abq target key signature in
-      let test = accepted_test set public abq key signature target in
-      let number = verdict-zero (first rules) test in
+      let number = verdict-zero v in
       let entries = accepted-exactly set public abq key signature target in
       let none = none-exactly 9 rules tt in (
-        (λ e. let z = number.0 (sym (ap verdict_number v) ∙ e) in (none.0 z.0, record { equal = entries.0 z.1 })),
-        (λ w. ap verdict_number v ∙ number.1 (none.1 w.0, entries.1 w.1.equal)),
+        (λ e. let z = number.0 e in (none.0 z.0, record { equal = entries.0 z.1 })),
+        (λ w. number.1 (none.1 w.0, entries.1 w.1.equal)),
       );
   unpacked = λ elements bytes r bytes' p e room r' room' u same.
       let done = pack-then-unpack elements p (answer-zero p e) u same in (ap number_of done.0, done.1);

@@ -3,19 +3,19 @@ ghost use Rattle.std.specs.Prelude.{◌≡◌};
 ghost use Rattle.model.specs.Chain.{outcome_of, SignsAndVerifies};
 
 use crate::Outcome;
-use ground::Answer;
+use ground::Refusal;
 use sets::Set;
 use signing::Signing;
 use verdict::Verdict;
 
 // A verdict as an outcome.
+// A match of two names to two names: no plainer, since Outcome has a third.
 fn judged(verdict: Verdict) -> Outcome
     ensures { result ≡ outcome_of verdict }
 {
     match verdict {
         Verdict::Accepted => Outcome::Accepted,
         Verdict::NotAccepted => Outcome::NotAccepted,
-        Verdict::Refused(n) => Outcome::Refused(n),
     }
 }
 
@@ -31,20 +31,19 @@ pub fn sign_and_verify(
     work: &mut [u8],
     key: &mut [u8],
     signature: &mut [u8],
-) -> Outcome
+) -> Result<Outcome, Refusal>
     ensures { SignsAndVerifies set public.now abq.now private.now vinegar.now target.now salt.now
         work.old key.old signature.old result work.new key.new signature.new }
 {
-    let generated = keys::generate(set, public, private, key);
-    let Answer::Done = generated else {
-        return Outcome::Refused(ground::number(generated));
-    };
+    keys::generate(set, public, private, key)?;
     let signed = signing::sign(
         set, public, abq, private, vinegar, target, salt, work, signature,
-    );
+    )?;
     match signed {
-        Signing::Refused(n) => Outcome::Refused(n),
-        Signing::Redo => Outcome::Redo,
-        Signing::Done => judged(verdict::verify(set, public, abq, target, key, signature)),
+        Signing::Redo => Ok(Outcome::Redo),
+        Signing::Done => {
+            let verdict = verdict::verify(set, public, abq, target, key, signature)?;
+            Ok(judged(verdict))
+        }
     }
 }

@@ -5,7 +5,7 @@
 mod chain;
 
 pub use chain::sign_and_verify;
-pub use ground::Answer;
+pub use ground::Refusal;
 pub use keys::generate;
 pub use packing::{pack, unpack};
 pub use salt::{salt, salt_status};
@@ -13,11 +13,10 @@ pub use sets::Set;
 pub use signing::{Signing, sign};
 pub use verdict::{Verdict, verify};
 
-// What becomes of key generation, signing and the verdict, called one after the other.
-#[derive(Clone, Copy)]
+// What becomes of key generation, signing and the verdict, called one after the other, where none of them refuses.
+#[derive(Clone, Copy, Debug, PartialEq, Eq)]
 pub enum Outcome {
     Accepted,
     NotAccepted,
     Redo,
-    Refused(u32),
 }

@@ -2,6 +2,7 @@
 -- Rests on Packing and on ground's tables.
 use Rattle.std.specs.Prelude.{◌≡◌, refl, true, false, List, [], ◌∷◌, ℕ, zero, suc, ◌+◌, ◌*◌, ◌/◌, ◌%◌, ◌<◌, ◌≤◌, leb, length, get_or, take, drop}
 use Rattle.std.proofs.Common.{sym, ap, ◌∙◌, add-one, arith, ext_get_or, drop-cons, get_or-take, le-leb, leb-true}
+use Rattle.std.specs.List.{list_all}
 use Rattle.std.proofs.Math.Decide.{dec_lt, ℕ_discrete}
 use Rattle.std.proofs.Math.ListN.{get_or-eq_default}
 use Rattle.std.proofs.lemmas.Bool.{lt-leb}
@@ -78,6 +79,12 @@ pub in-field-tab : (n : ℕ) (f : ℕ → ℕ) → ((k : ℕ) → k < n → f k 
 in-field-tab n f small =
     lt-in-field (tab n f) (λ k h. let l : k < n = omega (arith, length-tab n f) in rw (get_or-tab n f k l) (small k l))
 
+-- the test of the elements, in std's words
+pub in-field-all : (es : List ℕ) → list_all (λ x. leb x 15) es ≡ in_field es
+unfolding in_field
+in-field-all [] = refl
+in-field-all (x ∷ es) = rw (in-field-all es) (elim (leb x 15) [ true ↦ refl | false ↦ refl ])
+
 -- a test from place k on goes by what stands there, and on from the next place
 in-field-step : (es : List ℕ) (k : ℕ) → k < length es → in_field (drop k es) ≡ both (leb (get_or es k 0) 15) (in_field (drop (k + 1) es))
 unfolding in_field
@@ -88,9 +95,6 @@ in-field-next es k l h = in-field-step es k l ∙ ap (λ t. both t (in_field (dr
 
 pub in-field-stop : (es : List ℕ) (k : ℕ) → k < length es → 15 < get_or es k 0 → in_field (drop k es) ≡ false
 in-field-stop es k l h = in-field-step es k l ∙ ap (λ t. both t (in_field (drop (k + 1) es))) (lt-leb _ _ h)
-
--- the same, for the check to cite where a test of elements ends early
-pub ruleset in_field_stop = (in-field-stop)
 
 unpacked-in-field : (k : ℕ) (s : List ℕ) → in_field (unpacked k s) ≡ true
 unfolding unpacked

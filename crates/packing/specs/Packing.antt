@@ -3,9 +3,9 @@
 use Rattle.std.specs.Prelude.{Bool, true, List, [], ◌∷◌, ℕ, ◌+◌, ◌*◌, ◌/◌, ◌%◌, ◌<◌, eqb, leb, length, get_or}
 use Rattle.ground.specs.Pick.{pick, both}
 use Rattle.ground.specs.Fill.{tab}
-use Rattle.ground.specs.Answers.{Rule, unless, first}
+use Rattle.ground.specs.Answers.{Answer, Rule, unless, first}
+use Rattle.ground.specs.declared.Refusal.TheVariants.{CountsDiffer, AboveFifteen}
 use Rattle.ground.specs.Outcome.{Writes}
-use Rattle.ground.specs.declared.Answer.{Answer}
 
 -- the half of byte b that holds element e: the low half is the earlier element
 unfoldable pub half : ℕ → ℕ → ℕ
@@ -38,10 +38,10 @@ in_field (x ∷ xs) = both (leb x 15) (in_field xs)
 
 -- 22: element and byte counts do not fit; 23: an element above 15
 unfoldable pub pack_rules : List ℕ → List ℕ → List Rule
-pack_rules elements bytes = unless 22 (eqb (length bytes) (packed_bytes (length elements))) ∷ unless 23 (in_field elements) ∷ []
+pack_rules elements bytes = unless CountsDiffer (eqb (length bytes) (packed_bytes (length elements))) ∷ unless AboveFifteen (in_field elements) ∷ []
 
 unfoldable pub unpack_rules : List ℕ → List ℕ → List Rule
-unpack_rules bytes elements = unless 22 (eqb (length bytes) (packed_bytes (length elements))) ∷ []
+unpack_rules bytes elements = unless CountsDiffer (eqb (length bytes) (packed_bytes (length elements))) ∷ []
 
 -- What packing promises of its answer and of the lent bytes, before and after.
 abbrev pub Packs : List ℕ → List ℕ → Answer → List ℕ → Type 0

@@ -3,6 +3,7 @@
 use Rattle.std.specs.Prelude.{◌≡◌, true, List, [], ◌∷◌, ℕ, eqb, length}
 use Rattle.std.proofs.Common.{arith, eqb-true, eq-eqb}
 use Rattle.ground.specs.Answers.{unless, first, met-none, met-more, first-met}
+use Rattle.ground.specs.declared.Refusal.TheVariants.{CountsDiffer, AboveFifteen}
 use Rattle.ground.specs.First.{first_passes}
 use Rattle.packing.specs.Packing.{packed_bytes, in_field, pack_rules, unpack_rules}
 
@@ -10,13 +11,13 @@ use Rattle.packing.specs.Packing.{packed_bytes, in_field, pack_rules, unpack_rul
 pub pack-allowed : (elements bytes : List ℕ) → first (pack_rules elements bytes) ≡ 0 → (length bytes ≡ packed_bytes (length elements)) × (in_field elements ≡ true)
 unfolding pack_rules
 pack-allowed elements bytes e =
-    let counts = first_passes 22 (eqb (length bytes) (packed_bytes (length elements))) (unless 23 (in_field elements) ∷ []) (omega arith) e in
-    (eqb-true _ _ counts.0, (first_passes 23 (in_field elements) [] (omega arith) counts.1).0)
+    let counts = first_passes CountsDiffer (eqb (length bytes) (packed_bytes (length elements))) (unless AboveFifteen (in_field elements) ∷ []) e in
+    (eqb-true _ _ counts.0, (first_passes AboveFifteen (in_field elements) [] counts.1).0)
 
 pub unpack-allowed : (bytes elements : List ℕ) → first (unpack_rules bytes elements) ≡ 0 → length bytes ≡ packed_bytes (length elements)
 unfolding unpack_rules
 unpack-allowed bytes elements e =
-    eqb-true _ _ (first_passes 22 (eqb (length bytes) (packed_bytes (length elements))) [] (omega arith) e).0
+    eqb-true _ _ (first_passes CountsDiffer (eqb (length bytes) (packed_bytes (length elements))) [] e).0
 
 -- counts that fit are the one thing that unpacking asks
 pub unpack-fits : (bytes elements : List ℕ) → length bytes ≡ packed_bytes (length elements) → first (unpack_rules bytes elements) ≡ 0

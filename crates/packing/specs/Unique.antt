@@ -4,7 +4,7 @@ use Rattle.std.specs.Prelude.{◌≡◌, List, ℕ, ◌*◌}
 use Rattle.std.proofs.Common.{sym, ◌∙◌, arith, ext_get_or}
 use Rattle.std.proofs.Math.Decide.{dec_lt}
 use Rattle.ground.specs.Outcome.{unique-writes, unique-equation}
-use Rattle.ground.specs.declared.Answer.{Answer}
+use Rattle.ground.specs.Answers.{Answer}
 use Rattle.packing.specs.Packing.{element, packed_bytes, Packs, Unpacks}
 use Rattle.packing.specs.Spread.{Spread}
 

@@ -3,19 +3,20 @@
 #![tactic(auto)]
 
 ghost use Rattle.std.specs.Prelude.{◌≡◌, ◌+◌, ◌*◌, ◌/◌, ◌%◌, ◌<◌, ◌≤◌, true, length};
-ghost use Rattle.ground.specs.Answers.{first};
+ghost use Rattle.ground.specs.Answers.{first, number_of};
 ghost use Rattle.packing.specs.Packing.{packed_bytes, byte_of, packed, unpacked, in_field, pack_rules, unpack_rules, Packs, Unpacks};
 ghost use Rattle.packing.specs.Packing.{element as Packing·element};
 ghost use Rattle.packing.specs.Written.{Put};
 ghost use Rattle.packing.specs.Spread.{Spread};
 
-use ground::{Answer, answer_of, first_of};
+use ground::{Refusal, demand};
 
-// How many bytes k elements take, for every k: the sum k + 1 could pass the largest number.
+// How many bytes k elements take, for every k.
+#[tactic(auto, unfolding(crate::specs::Packing::packed_bytes))]
 pub fn packed_bytes(k: usize) -> usize
     ensures { result ≡ packed_bytes k }
 {
-    k / 2 + k % 2
+    k.div_ceil(2)
 }
 
 // The half of a byte that is the earlier element, and the half that is the later one: page 01's rule of the two halves, for every reader.
@@ -66,57 +67,48 @@ pub fn put(s: &mut [u8], e: usize, x: u8)
 }
 
 // No element is above 15.
-#[tactic(auto, using(crate::proofs::Laws::in_field_stop))]
 fn in_field(elements: &[u8]) -> bool
     ensures { result ≡ in_field elements.now }
 {
-    let mut k = 0;
-    while k < elements.len() {
-        if elements[k] > 15 {
-            return false;
-        }
-        k += 1;
-    }
-    true
+    elements.iter().all(|x| *x <= 15)
 }
 
 // Packs the elements, two to a byte. 22: the counts do not fit; 23: an element above 15. A refusal leaves the bytes as they were.
-pub fn pack(elements: &[u8], bytes: &mut [u8]) -> Answer
+pub fn pack(elements: &[u8], bytes: &mut [u8]) -> Result<(), Refusal>
     ensures { Packs elements.now bytes.old result bytes.new }
 {
-    let n = pack_refusal(elements, bytes);
-    if n == 0 {
-        pack_all(elements, bytes);
-    }
-    answer_of(n)
+    check_pack(elements, bytes)?;
+    pack_all(elements, bytes);
+    Ok(())
 }
 
 // Unpacks as many elements as there is room for. 22: the counts do not fit. A refusal leaves the elements as they were.
-pub fn unpack(bytes: &[u8], elements: &mut [u8]) -> Answer
+// Like pack, the check and then the work: no plainer.
+pub fn unpack(bytes: &[u8], elements: &mut [u8]) -> Result<(), Refusal>
     ensures { Unpacks bytes.now elements.old result elements.new }
 {
-    let r22 = unpack_refusal(bytes, elements);
-    if r22 == 0 {
-        unpack_all(bytes, elements);
-    }
-    answer_of(r22)
+    check_unpack(bytes, elements)?;
+    unpack_all(bytes, elements);
+    Ok(())
 }
 
-// The first number that applies to a call of pack, or 0.
-fn pack_refusal(elements: &[u8], bytes: &[u8]) -> u32
-    ensures { result ≡ first (pack_rules elements.now bytes.now) }
+// The first refusal that applies to a call of pack.
+#[tactic(auto, unfolding(ground::specs::Answers::first, crate::specs::Packing::pack_rules))]
+fn check_pack(elements: &[u8], bytes: &[u8]) -> Result<(), Refusal>
+    ensures { number_of result ≡ first (pack_rules elements.now bytes.now) }
 {
-    let counts = bytes.len() == packed_bytes(elements.len());
-    let field = in_field(elements);
-    first_of(22, counts, first_of(23, field, 0))
+    let fits = bytes.len() == packed_bytes(elements.len());
+    demand(fits, Refusal::CountsDiffer)?;
+    demand(in_field(elements), Refusal::AboveFifteen)
 }
 
-// The first number that applies to a call of unpack, or 0.
-fn unpack_refusal(bytes: &[u8], elements: &[u8]) -> u32
-    ensures { result ≡ first (unpack_rules bytes.now elements.now) }
+// The first refusal that applies to a call of unpack.
+#[tactic(auto, unfolding(ground::specs::Answers::first, crate::specs::Packing::unpack_rules))]
+fn check_unpack(bytes: &[u8], elements: &[u8]) -> Result<(), Refusal>
+    ensures { number_of result ≡ first (unpack_rules bytes.now elements.now) }
 {
-    let counts = bytes.len() == packed_bytes(elements.len());
-    first_of(22, counts, 0)
+    let fits = bytes.len() == packed_bytes(elements.len());
+    demand(fits, Refusal::CountsDiffer)
 }
 
 // The byte that holds elements 2 * j and 2 * j + 1: where the later one is missing, its half is zero.
@@ -138,22 +130,19 @@ fn pack_all(elements: &[u8], bytes: &mut [u8])
     requires { (length bytes.old ≡ packed_bytes (length elements.now)) × (in_field elements.now ≡ true) }
     ensures { bytes.new ≡ packed elements.now }
 {
-    let mut j = 0;
-    while j < bytes.len() {
+    for j in 0..bytes.len() {
         bytes[j] = byte_of(elements, j);
-        j += 1;
     }
 }
 
 // Writes every element that there is room for.
+// Like pack_all, one loop over another step: no plainer.
 fn unpack_all(bytes: &[u8], elements: &mut [u8])
     requires { length bytes.now ≡ packed_bytes (length elements.old) }
     ensures { elements.new ≡ unpacked (length elements.old) bytes.now }
 {
-    let mut e = 0;
-    while e < elements.len() {
+    for e in 0..elements.len() {
         elements[e] = element(bytes, e);
-        e += 1;
     }
 }
 
@@ -162,11 +151,9 @@ pub fn spread(dst: &mut [u8], stream: &[u8], from: usize, n: usize)
     requires { (2 * n ≤ length dst.old) × (from + n ≤ length stream.now) }
     ensures { Spread stream.now from n dst.old dst.new }
 {
-    let mut k = 0;
-    while k < n {
+    for k in 0..n {
         let b = stream[from + k];
         dst[2 * k] = low_half(b);
         dst[2 * k + 1] = high_half(b);
-        k += 1;
     }
 }

@@ -2,11 +2,16 @@
 // Then each refusal, with the buffer that it leaves as it was. Every line is what a call answered and what its buffer held after it.
 #![tactic(auto)]
 
-use ground::Answer;
+use ground::Refusal;
 use std::io;
 
 // One line: what was asked, the answer's number, and the buffer in hexadecimal.
-fn show(rt: &impl Print, asked: &str, answer: Answer, buffer: &[u8]) -> io::Result<()> {
+fn show(
+    rt: &impl Print,
+    asked: &str,
+    answer: Result<(), Refusal>,
+    buffer: &[u8],
+) -> io::Result<()> {
     let number = ground::number(answer);
     print!(rt; "{asked}{number}")?;
     for x in buffer {
@@ -20,6 +25,7 @@ fn unpacks(rt: &impl Print, asked: &str, bytes: &[u8], elements: &mut [u8]) -> i
     show(rt, asked, r, elements)
 }
 
+// The other call of the page, like unpacks: no plainer.
 fn packs(rt: &impl Print, asked: &str, elements: &[u8], bytes: &mut [u8]) -> io::Result<()> {
     let r = packing::pack(elements, bytes);
     show(rt, asked, r, bytes)
@@ -66,6 +72,7 @@ fn above_15(rt: &impl Print) -> io::Result<()> {
     )
 }
 
+// A page's program begins as the others do: no plainer.
 fn main(rt: HostRuntime) -> io::Result<()> {
     example(&rt)?;
     counts(&rt)?;

@@ -74,3 +74,6 @@ table-sizes {set} b =
 -- the rows of matrix index i among those of all: m rows of n bytes for each
 pub stack-fits : {i o : ℕ} (m n : ℕ) → i < o → i * (m * n) + m * n ≤ o * m * n
 stack-fits m n h = omega (arith, row_fits (m * n) h)
+
+-- for goals that the check answers
+pub ruleset sizes = (table-sizes)

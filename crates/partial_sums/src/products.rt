@@ -24,8 +24,7 @@ pub fn add_products(
     ensures { (src : List ℕ) → Multiples n (count * l) src multiples.now
         → PlusRows dst.old at (a * l) n (products_row l stream.now number count src n) dst.new }
 {
-    let mut y = 0;
-    while y < a {
+    for y in 0..a {
         tables::add_blocks(
             dst,
             at + y * (l * n),
@@ -37,6 +36,5 @@ pub fn add_products(
             multiples,
             0,
         );
-        y += 1;
     }
 }

@@ -39,11 +39,11 @@ fn show<W: Write + Drop>(out: &mut Output<W>, reader: Reader, piece: &[u8]) -> R
     let mut at = 0;
     while at < piece.len() {
         let part = responses::feed(here, piece, at);
-        let after = part.reader;
-        let event = part.event;
+        if let Some(event) = part.event {
+            write_text(out, responses::event_text(event));
+        }
+        here = part.reader;
         at = part.at;
-        write_text(out, responses::event_text(event));
-        here = after;
     }
     here
 }

@@ -2,6 +2,7 @@
 -- Rests on Sets, and on Answers of the crate ground. 21 is added by the crates that can decide it.
 use Rattle.std.specs.Prelude.{List, [], ◌∷◌, ℕ, eqb}
 use Rattle.ground.specs.Answers.{Rule, unless}
+use Rattle.ground.specs.declared.Refusal.TheVariants.{SetNotAllowed, PublicLength, AbqLength, PrivateLength, VinegarLength, TargetLength, KeyLength, SaltLength, SignatureLength, WorkLength, OutputLength}
 use Rattle.sets.specs.declared.Set.{Set}
 use Rattle.sets.specs.Sets.{
   allowed_set,
@@ -19,38 +20,38 @@ use Rattle.sets.specs.Sets.{
 -- the page's table: a number, given unless the set is allowed or the length is the exact one
 
 abbrev pub set_rule : Set → Rule
-set_rule s = unless 10 (allowed_set s)
+set_rule s = unless SetNotAllowed (allowed_set s)
 
 abbrev pub public_rule : Set → ℕ → Rule
-public_rule s n = unless 11 (eqb n (public_bytes s))
+public_rule s n = unless PublicLength (eqb n (public_bytes s))
 
 abbrev pub abq_rule : Set → ℕ → Rule
-abq_rule s n = unless 12 (eqb n (abq_bytes s))
+abq_rule s n = unless AbqLength (eqb n (abq_bytes s))
 
 abbrev pub private_rule : Set → ℕ → Rule
-private_rule s n = unless 13 (eqb n (private_bytes s))
+private_rule s n = unless PrivateLength (eqb n (private_bytes s))
 
 abbrev pub vinegar_rule : Set → ℕ → Rule
-vinegar_rule s n = unless 14 (eqb n (vinegar_bytes s))
+vinegar_rule s n = unless VinegarLength (eqb n (vinegar_bytes s))
 
 abbrev pub target_rule : Set → ℕ → Rule
-target_rule s n = unless 15 (eqb n (target_bytes s))
+target_rule s n = unless TargetLength (eqb n (target_bytes s))
 
 abbrev pub key_rule : Set → ℕ → Rule
-key_rule s n = unless 16 (eqb n (key_bytes s))
+key_rule s n = unless KeyLength (eqb n (key_bytes s))
 
 abbrev pub salt_rule : ℕ → Rule
-salt_rule n = unless 17 (eqb n salt_bytes)
+salt_rule n = unless SaltLength (eqb n salt_bytes)
 
 abbrev pub signature_rule : Set → ℕ → Rule
-signature_rule s n = unless 18 (eqb n (signature_bytes s))
+signature_rule s n = unless SignatureLength (eqb n (signature_bytes s))
 
 abbrev pub work_rule : Set → ℕ → Rule
-work_rule s n = unless 19 (eqb n (work_bytes s))
+work_rule s n = unless WorkLength (eqb n (work_bytes s))
 
 -- an output of another length, whatever it is to hold
 abbrev pub output_rule : ℕ → ℕ → Rule
-output_rule exact n = unless 20 (eqb n exact)
+output_rule exact n = unless OutputLength (eqb n exact)
 
 -- each operation's refusals, for the buffers that it takes
 

@@ -8,6 +8,7 @@ use Rattle.std.proofs.Math.Seq.{drop-append_seam}
 use Rattle.ground.specs.Pick.{pick, both, both_left, both_right, both_true}
 use Rattle.ground.specs.Answers.{first}
 use Rattle.ground.specs.First.{first_passes}
+use Rattle.ground.specs.declared.Refusal.TheVariants.{BadLine, FieldOutOfOrder, NotADigit, NumberTooLarge, OddDigits}
 use Rattle.response_format.specs.Fields.{digit_of, numeral, label, is_number}
 use Rattle.response_format.specs.Rules.{begins, separated, all_digits, some, paired, value_rules, field_rules, whole, line_rules, fault, after, refusal, refusal_of, begun, cut}
 use Rattle.response_format.specs.Format.{Digits, none, more, Value, number, bytes, Ends, Lines, end, empty, comment, field, Free, free-none, free_more, AllFree, all_none, all_more, join, Format}
@@ -47,12 +48,12 @@ sound-value k v z = by (is_number k) refl
   where
     by : (t : Bool) → is_number k ≡ t → Value k v
     by true i =
-        let (a, p) = first_passes 32 (both (some v) (all_digits 10 v)) _ (λ w. omega arith) (rw i at z) in
-        let (c, q) = first_passes 34 (leb (numeral 0 v) 4294967295) _ (λ w. omega arith) p in
+        let (a, p) = first_passes NotADigit (both (some v) (all_digits 10 v)) _ (rw i at z) in
+        let (c, q) = first_passes NumberTooLarge (leb (numeral 0 v) 4294967295) _ p in
         number i (some-long v (both_left (some v) (all_digits 10 v) a)) (all_digits_lem 10 v (both_right (some v) (all_digits 10 v) a)) (leb-true _ _ c)
     by false i =
-        let (a, p) = first_passes 32 (all_digits 16 v) _ (λ w. omega arith) (rw i at z) in
-        let (c, q) = first_passes 31 (paired v) _ (λ w. omega arith) p in
+        let (a, p) = first_passes NotADigit (all_digits 16 v) _ (rw i at z) in
+        let (c, q) = first_passes OddDigits (paired v) _ p in
         bytes i (all_digits_lem 16 v a) (eqb-true _ _ (sym (paired-even v) ∙ c))
 
 -- ---- a field's line
@@ -84,8 +85,8 @@ record Due (k : ℕ) (l : List ℕ) : Type 0 where
 sound-field : (k : ℕ) (l : List ℕ) → first (field_rules k l) ≡ 0 → Due k l
 unfolding field_rules
 sound-field k l z =
-    let (a, p) = first_passes 30 (separated l) _ (λ w. omega arith) z in
-    let (c, q) = first_passes 33 (both (ltb k 8) (begins (label k) l)) _ (λ w. omega arith) p in
+    let (a, p) = first_passes BadLine (separated l) _ z in
+    let (c, q) = first_passes FieldOutOfOrder (both (ltb k 8) (begins (label k) l)) _ p in
     record {
       due = ltb-true k 8 (both_left (ltb k 8) (begins (label k) l) c);
       is = begins-split (label k) l (both_right (ltb k 8) (begins (label k) l) c);
@@ -146,7 +147,7 @@ end_whole k (b ∷ rest) z = absurd (omega arith)
 
 empty-ends : (k : ℕ) → fault k [] ≡ 0 → Ends k
 unfolding line_rules
-empty-ends k z = whole-ends k (first_passes 33 (whole k) [] (λ w. omega arith) z).0
+empty-ends k z = whole-ends k (first_passes FieldOutOfOrder (whole k) [] z).0
 
 sound-lines : (k : ℕ) (ls : List (List ℕ)) (rest : List ℕ) → refusal k ls rest ≡ 0 → (rest ≡ []) × Lines k ls
 unfolding after line_rules

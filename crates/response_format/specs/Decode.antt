@@ -5,6 +5,7 @@ use Rattle.std.proofs.Common.{sym, ap, ap₂, ◌∙◌, not-suc-le-zero, arith,
 use Rattle.ground.specs.Pick.{both, both_left, both_right}
 use Rattle.ground.specs.Answers.{first}
 use Rattle.ground.specs.First.{first_passes}
+use Rattle.ground.specs.declared.Refusal.TheVariants.{NotADigit, OddDigits, OutputLength}
 use Rattle.ground.specs.Fill.{tab, tab-ext}
 use Rattle.response_format.specs.Fields.{digit_of}
 use Rattle.response_format.specs.Rules.{all_digits, paired}
@@ -78,9 +79,9 @@ pub record Allowed (digits out : List ℕ) : Type 0 where
 pub decode-allowed : (digits out : List ℕ) → first (decode_rules digits out) ≡ 0 → Allowed digits out
 unfolding decode_rules
 decode-allowed digits out z =
-    let (a, p) = first_passes 32 (all_digits 16 digits) _ (λ w. omega arith) z in
-    let (b, q) = first_passes 31 (paired digits) _ (λ w. omega arith) p in
-    let (c, r) = first_passes 20 (eqb (length out) (length digits / 2)) _ (λ w. omega arith) q in
+    let (a, p) = first_passes NotADigit (all_digits 16 digits) _ z in
+    let (b, q) = first_passes OddDigits (paired digits) _ p in
+    let (c, r) = first_passes OutputLength (eqb (length out) (length digits / 2)) _ q in
     let even : length digits % 2 ≡ 0 = eqb-true _ _ (sym (paired-even digits) ∙ b) in
     let half : length out ≡ length digits / 2 = eqb-true _ _ c in
     record { all = a; fits = omega arith }

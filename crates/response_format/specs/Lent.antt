@@ -1,20 +1,21 @@
 -- What is written into a lent output: a value decoded, and one field of a file collected.
 -- Rests on Rules and Tells, and on Answers and Outcome of the crate ground.
-use Rattle.std.specs.Prelude.{◌≡◌, Bool, false, not, List, [], ◌∷◌, ℕ, ◌-◌, ◌/◌, eqb, length}
+use Rattle.std.specs.Prelude.{◌≡◌, Bool, false, not, List, [], ◌∷◌, ℕ, ◌-◌, ◌/◌, eqb, length, Result, Ok, Err}
 use Rattle.ground.specs.Pick.{pick, both}
-use Rattle.ground.specs.Answers.{Rule, unless, first}
+use Rattle.ground.specs.Answers.{code, Answer, Rule, unless, first, Gives}
+use Rattle.ground.specs.declared.Refusal.{Refusal}
+use Rattle.ground.specs.declared.Refusal.TheVariants.{OutputLength, OddDigits, NotADigit}
 use Rattle.ground.specs.Outcome.{Writes}
-use Rattle.ground.specs.declared.Answer.{Answer}
 use Rattle.response_format.specs.Fields.{is_number}
 use Rattle.response_format.specs.Rules.{all_digits, paired, value_in, fault, after, refusal, cut}
 use Rattle.response_format.specs.Tells.{decoded}
 use Rattle.response_format.specs.declared.Collected.{Collected}
-use Rattle.response_format.specs.declared.Collected.TheVariants.{Written, Absent, Refused}
+use Rattle.response_format.specs.declared.Collected.TheVariants.{Written, Absent}
 
 -- ---- a value
 
 unfoldable pub decode_rules : List ℕ → List ℕ → List Rule
-decode_rules digits out = unless 32 (all_digits 16 digits) ∷ unless 31 (paired digits) ∷ unless 20 (eqb (length out) (length digits / 2)) ∷ []
+decode_rules digits out = unless NotADigit (all_digits 16 digits) ∷ unless OddDigits (paired digits) ∷ unless OutputLength (eqb (length out) (length digits / 2)) ∷ []
 
 -- the bytes where nothing is refused, and else the output as it was
 abbrev pub Decodes : List ℕ → List ℕ → Answer → List ℕ → Type 0
@@ -46,21 +47,27 @@ sought j n k (l ∷ ls) rest =
 abbrev pub sought_in : List ℕ → ℕ → ℕ → Sought
 sought_in f n j = sought j n 0 (cut f).lines (cut f).rest
 
-unfoldable pub collected : Sought → List ℕ → Collected
-collected (value v) before = pick (eqb (length before) (length v / 2)) Written (Refused 20)
-collected (none n) before = pick (eqb n 0) Absent (Refused n)
+-- why it is not collected: what stands before it, or 20, an output of another length
+unfoldable pub collect_refusal : Sought → List ℕ → ℕ
+collect_refusal (value v) before = pick (eqb (length before) (length v / 2)) 0 20
+collect_refusal (none n) before = n
+
+-- and where nothing is refused: written, or absent
+unfoldable pub collected : Sought → Collected
+collected (value v) = Written
+collected (none n) = Absent
 
 unfoldable pub contents : Sought → List ℕ → List ℕ
 contents (value v) before = pick (eqb (length before) (length v / 2)) (decoded v) before
 contents (none n) before = before
 
 -- what collecting a field promises of its answer and of the output
-pub record Collects (file : List ℕ) (n j : ℕ) (before : List ℕ) (r : Collected) (after : List ℕ) : Type 0 where
-  pub answer : r ≡ collected (sought_in file n j) before
+pub record Collects (file : List ℕ) (n j : ℕ) (before : List ℕ) (r : Result Collected Refusal) (after : List ℕ) : Type 0 where
+  pub answer : Gives (collect_refusal (sought_in file n j) before) (collected (sought_in file n j)) r
   pub output : after ≡ contents (sought_in file n j) before
 
 -- the page's number: a field that is not there is a missing one
-abbrev pub collected_number : Collected → ℕ
-collected_number Written = 0
-collected_number Absent = 33
-collected_number (Refused n) = n
+abbrev pub collected_number : Result Collected Refusal → ℕ
+collected_number (Ok Written) = 0
+collected_number (Ok Absent) = 33
+collected_number (Err r) = code r

@@ -1,5 +1,6 @@
 pub mod Fields
 pub mod Format
+pub mod Given
 pub mod Rules
 pub mod Tells
 pub mod Lent

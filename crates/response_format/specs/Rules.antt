@@ -3,6 +3,7 @@
 use Rattle.std.specs.Prelude.{Bool, true, false, List, [], ◌∷◌, ℕ, ◌+◌, eqb, ltb, leb, length, drop}
 use Rattle.ground.specs.Pick.{pick, both}
 use Rattle.ground.specs.Answers.{Rule, unless, first}
+use Rattle.ground.specs.declared.Refusal.TheVariants.{BadLine, OddDigits, NotADigit, FieldOutOfOrder, NumberTooLarge}
 use Rattle.response_format.specs.Fields.{digit_of, numeral, label, is_number}
 
 -- ---- tests of a line
@@ -40,10 +41,10 @@ abbrev pub value_in : ℕ → List ℕ → List ℕ
 value_in k l = drop (length (label k)) l
 
 abbrev pub number_rules : List ℕ → List Rule
-number_rules v = unless 32 (both (some v) (all_digits 10 v)) ∷ unless 34 (leb (numeral 0 v) 4294967295) ∷ []
+number_rules v = unless NotADigit (both (some v) (all_digits 10 v)) ∷ unless NumberTooLarge (leb (numeral 0 v) 4294967295) ∷ []
 
 abbrev pub bytes_rules : List ℕ → List Rule
-bytes_rules v = unless 32 (all_digits 16 v) ∷ unless 31 (paired v) ∷ []
+bytes_rules v = unless NotADigit (all_digits 16 v) ∷ unless OddDigits (paired v) ∷ []
 
 abbrev pub value_rules : ℕ → List ℕ → List Rule
 value_rules k v = pick (is_number k) (number_rules v) (bytes_rules v)
@@ -51,8 +52,8 @@ value_rules k v = pick (is_number k) (number_rules v) (bytes_rules v)
 -- a name ends at the first " = ", and no field's name holds a space: so the name is the next field's where the line begins with its label
 unfoldable pub field_rules : ℕ → List ℕ → List Rule
 field_rules k l =
-    unless 30 (separated l)
-    ∷ unless 33 (both (ltb k 8) (begins (label k) l))
+    unless BadLine (separated l)
+    ∷ unless FieldOutOfOrder (both (ltb k 8) (begins (label k) l))
     ∷ value_rules k (value_in k l)
 
 -- no entry is begun, or all its fields are read
@@ -61,7 +62,7 @@ whole k = pick (eqb k 0) true (eqb k 8)
 
 -- an empty line ends an entry; a line that starts with # says nothing
 unfoldable pub line_rules : ℕ → List ℕ → List Rule
-line_rules k [] = unless 33 (whole k) ∷ []
+line_rules k [] = unless FieldOutOfOrder (whole k) ∷ []
 line_rules k (b ∷ l) = pick (eqb b 35) [] (field_rules k (b ∷ l))
 
 abbrev pub fault : ℕ → List ℕ → ℕ

@@ -1,10 +1,12 @@
 -- What a file tells, line by line: bytes, numbers, the ends of fields and entries, the refusal.
 -- A field's decoded bytes come as their digits come, so those of a line that turns out to be at fault come too: they stand only once Ended or Entry follows.
 -- Rests on Rules.
-use Rattle.std.specs.Prelude.{List, [], ◌∷◌, ◌++◌, map, ℕ, ◌+◌, ◌*◌, eqb, ltb}
+use Rattle.std.specs.Prelude.{List, [], ◌∷◌, ◌++◌, map, ℕ, ◌+◌, ◌*◌, eqb, ltb, Result, Ok, Err}
 use Rattle.ground.specs.Pick.{pick, both}
+use Rattle.response_format.specs.Given.{given}
+use Rattle.ground.specs.declared.Refusal.{Refusal}
 use Rattle.response_format.specs.Fields.{digit_of, numeral, label, is_number}
-use Rattle.response_format.specs.Rules.{begins, value_in, fault, after}
+use Rattle.response_format.specs.Rules.{begins, value_in, line_rules, after}
 use Rattle.response_format.specs.declared.Numbers.{Numbers}
 use Rattle.response_format.specs.declared.Event.{Event}
 use Rattle.response_format.specs.declared.Event.TheVariants as event
@@ -49,11 +51,16 @@ unfoldable pub noted : ℕ → List ℕ → Numbers → Numbers
 noted k [] e = e
 noted k (b ∷ l) e = pick (eqb b 35) e (pick (is_number k) (keep k (numeral 0 (value_in k (b ∷ l))) e) e)
 
+-- what is told, or the refusal alone
+abbrev pub or_refused : Result (List Event) Refusal → List Event
+or_refused (Ok vs) = vs
+or_refused (Err r) = event.Refused r ∷ []
+
 -- what the lines and the rest of a file tell, up to the first line at fault
 unfoldable pub tells : ℕ → Numbers → List (List ℕ) → List ℕ → List Event
 tells k e [] rest = line_bytes k rest
 tells k e (l ∷ ls) rest =
-    line_bytes k l ++ pick (eqb (fault k l) 0) (closing k e l ++ tells (after k l) (noted k l e) ls rest) (event.Refused (fault k l) ∷ [])
+    line_bytes k l ++ or_refused (given (line_rules k l) (closing k e l ++ tells (after k l) (noted k l e) ls rest))
 
 -- before the first number of a file
 abbrev pub no_numbers : Numbers

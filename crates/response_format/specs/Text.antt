@@ -2,6 +2,7 @@
 -- Rests on Rules and Tells.
 use Rattle.std.specs.Prelude.{List, [], ◌∷◌, ◌++◌, ℕ, zero, suc, ◌+◌, ◌/◌, ◌%◌, eqb}
 use Rattle.ground.specs.Pick.{pick}
+use Rattle.ground.specs.Answers.{code}
 use Rattle.response_format.specs.Rules.{fault, after, refusal, cut}
 use Rattle.response_format.specs.Tells.{closing, noted, no_numbers}
 use Rattle.response_format.specs.declared.Numbers.{Numbers}
@@ -25,12 +26,11 @@ unfoldable pub refused_text : ℕ → List ℕ
 refused_text n = 114 ∷ 101 ∷ 102 ∷ 117 ∷ 115 ∷ 101 ∷ 100 ∷ 32 ∷ decimal n (10 ∷ [])
 
 unfoldable pub event_text : Event → List ℕ
-event_text event.Nothing = []
 event_text (event.Byte k b) = []
 event_text (event.Number k n) = []
 event_text (event.Ended k) = []
 event_text (event.Entry e) = entry_text e
-event_text (event.Refused n) = refused_text n
+event_text (event.Refused r) = refused_text (code r)
 
 unfoldable pub text_of : List Event → List ℕ
 text_of [] = []

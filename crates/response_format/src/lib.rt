@@ -3,6 +3,8 @@
 // specs/Fields, Format, Rules, Tells, Lent and Text.
 #![tactic(auto)]
 
+use ground::Refusal;
+
 // The numbers of an entry.
 #[derive(Clone, Copy)]
 pub struct Numbers {
@@ -15,7 +17,6 @@ pub struct Numbers {
 // Decoded bytes stand only once their field's end is told: a refusal in the same line takes them back.
 #[derive(Clone, Copy)]
 pub enum Event {
-    Nothing,
     // a decoded byte of this field
     Byte(u8, u8),
     // this field is a number
@@ -24,16 +25,15 @@ pub enum Event {
     Ended(u8),
     // sm has ended, and the entry with it
     Entry(Numbers),
-    Refused(u32),
+    Refused(Refusal),
 }
 
-// What becomes of the question for one field of one entry.
+// What becomes of the question for one field of one entry, where nothing is refused.
+// A type of its own beside Next, Verdict and Signing, each with two names of the page: one type for all would name none.
 #[derive(Clone, Copy)]
 pub enum Collected {
     // found, and its bytes written, all of them
     Written,
     // the file is at its end, sound so far, and has no such field
     Absent,
-    // the file's refusal up to the line of that field, or 20: an output of another length
-    Refused(u32),
 }

@@ -1,23 +1,21 @@
--- `decode`, by the number of its refusal: over plain variables, so that its proof needs no answer.
--- Rests on decode-allowed and decoded-tab of response_format.
-use Rattle.std.specs.Prelude.{◌≡◌, List, ℕ, ◌*◌, length}
-use Rattle.std.proofs.Common.{sym, ap, ◌∙◌}
-use Rattle.ground.specs.Answers.{first, answer_of}
-use Rattle.ground.specs.Fill.{tab}
-use Rattle.ground.specs.declared.Answer.{Answer}
-use Rattle.response_format.specs.Lent.{decode_rules, Decodes}
-use Rattle.response_format.specs.Decode.{decode-allowed, decoded-tab, pair_at}
+-- `all_digits` as a test of each byte, and pairs as an even count.
+-- Rests on Rules and Decode of response_format.
+use Rattle.std.specs.Prelude.{◌≡◌, refl, Bool, true, false, ◌&&◌, List, [], ◌∷◌, ℕ, ◌%◌, eqb, length}
+use Rattle.std.proofs.Common.{ap, ◌∙◌, ltb}
+use Rattle.std.specs.List.{list_all}
+use Rattle.ground.specs.Pick.{both}
+use Rattle.response_format.specs.Fields.{digit_of}
+use Rattle.response_format.specs.Rules.{all_digits, paired}
+use Rattle.response_format.specs.Decode.{paired-even}
 
-pub decode_fits : {n : ℕ} (digits out : List ℕ) → n ≡ first (decode_rules digits out) → n ≡ 0 → length digits ≡ length out * 2
-decode_fits digits out e z = (decode-allowed digits out (sym e ∙ z)).fits
+pub each_digit : (v : List ℕ) → list_all (λ b. ltb (digit_of b) 16) v ≡ all_digits 16 v
+unfolding all_digits
+each_digit [] = refl
+each_digit (b ∷ v) = ap (λ x. ltb (digit_of b) 16 && x) (each_digit v) ∙ same (ltb (digit_of b) 16) (all_digits 16 v)
+  where
+    same : (x y : Bool) → (x && y) ≡ both x y
+    same true y = refl
+    same false y = refl
 
-pub decode_done : {n : ℕ} {r : Answer} {after : List ℕ} (digits out : List ℕ) → n ≡ first (decode_rules digits out) → r ≡ answer_of n → n ≡ 0
-    → after ≡ tab (length out) (pair_at digits) → Decodes digits out r after
-decode_done digits out e a z w =
-    let y = sym e ∙ z in
-    let k = decode-allowed digits out y in
-    record { answer = a ∙ ap answer_of e; refused = λ p. absurd (p y); done = λ p. w ∙ sym (decoded-tab digits (length out) k.fits k.all) }
-
-pub decode_refused : {n : ℕ} {r : Answer} {after : List ℕ} (digits out : List ℕ) → n ≡ first (decode_rules digits out) → r ≡ answer_of n → (n ≡ 0 → ⊥)
-    → after ≡ out → Decodes digits out r after
-decode_refused digits out e a z w = record { answer = a ∙ ap answer_of e; refused = λ p. w; done = λ p. absurd (z (e ∙ p)) }
+pub even_pairs : (v : List ℕ) → paired v ≡ eqb (length v % 2) 0
+even_pairs = paired-even

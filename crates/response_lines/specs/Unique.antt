@@ -1,6 +1,6 @@
 -- No second outcome meets a contract of a line's code; that of `decode` is in response_format.
 -- Rests on Fields and Rules of response_format, Machine of response_machine, and Outcome of the crate ground.
-use Rattle.std.specs.Prelude.{◌≡◌, Bool, ℕ, length, get_or}
+use Rattle.std.specs.Prelude.{◌≡◌, Bool, Option, ℕ, length, get_or}
 use Rattle.ground.specs.Outcome.{unique-equation}
 use Rattle.response_format.specs.Fields.{digit_of, label, is_number}
 use Rattle.response_format.specs.Rules.{whole}
@@ -24,7 +24,7 @@ unique-is-number k = unique-equation
 pub unique-next : (k : ℕ) (s : Line) (b : ℕ) {r r' : Line} → r ≡ next k s b → r' ≡ next k s b → r ≡ r'
 unique-next k s b = unique-equation
 
-pub unique-handed : (k : ℕ) (s : Line) (b : ℕ) {r r' : Event} → r ≡ handed k s b → r' ≡ handed k s b → r ≡ r'
+pub unique-handed : (k : ℕ) (s : Line) (b : ℕ) {r r' : Option Event} → r ≡ handed k s b → r' ≡ handed k s b → r ≡ r'
 unique-handed k s b = unique-equation
 
 pub unique-whole : (k : ℕ) {r r' : Bool} → r ≡ whole k → r' ≡ whole k → r ≡ r'

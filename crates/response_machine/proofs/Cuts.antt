@@ -2,6 +2,7 @@
 -- Rests on Reading and Events.
 use Rattle.std.specs.Prelude.{◌≡◌, refl, List, [], ◌∷◌, ◌++◌, ℕ}
 use Rattle.std.proofs.Common.{sym, ap, ◌∙◌}
+use Rattle.ground.specs.Answers.{number_of}
 use Rattle.response_format.specs.Rules.{refusal_of}
 use Rattle.response_machine.specs.Machine.{start}
 use Rattle.response_machine.specs.Reads.{fed, end_of}
@@ -22,5 +23,5 @@ events-pieces r [] = refl
 events-pieces r (p ∷ ps) = ap (λ x. events r p ++ x) (events-pieces (fed r p) ps) ∙ sym (events-append r p (together ps))
 
 -- so the answer at the end is the refusal of the whole file
-pub reads-pieces : (ps : List (List ℕ)) → end_of (fed_pieces start ps) ≡ refusal_of (together ps)
-reads-pieces ps = ap end_of (fed-pieces start ps) ∙ reads (together ps)
+pub reads-pieces : (ps : List (List ℕ)) → number_of (end_of (fed_pieces start ps)) ≡ refusal_of (together ps)
+reads-pieces ps = ap (λ r. number_of (end_of r)) (fed-pieces start ps) ∙ reads (together ps)

@@ -1,6 +1,6 @@
 -- The machine hands out what the file says, byte by byte and however it is cut.
 -- Rests on Within and Reading.
-use Rattle.std.specs.Prelude.{◌≡◌, Bool, true, false, ℕ, zero, suc, ◌+◌, ◌*◌, ◌%◌, ◌<◌, ◌≤◌, eqb, ltb, length, get_or, take}
+use Rattle.std.specs.Prelude.{◌≡◌, Bool, true, false, ℕ, zero, suc, ◌+◌, ◌*◌, ◌%◌, ◌<◌, ◌≤◌, eqb, ltb, length, get_or, take, Some, None}
 use Rattle.std.proofs.Math.Path.{refl, sym, ap}
 use Rattle.std.proofs.Common.{ap₂, ◌∙◌, not-suc-le-zero, arith, take_all}
 use mathlib.Core.List.{List, [], ◌∷◌, ◌++◌, map, append-nil, append_assoc}
@@ -8,8 +8,10 @@ use Rattle.std.proofs.Math.Decide.{ℕ_discrete, dec_lt}
 use Rattle.std.proofs.Math.Seq.{drop-append_seam}
 use borrow.Author.Tests.{eq-eqb, ne_eqb, lt-ltb, le-ltb, ltb-true}
 use Rattle.ground.specs.Pick.{pick, both}
+use Rattle.response_format.specs.Given.{given-met, refuses, given-refused}
+use Rattle.ground.specs.declared.Refusal.{Refusal}
 use Rattle.response_format.specs.Fields.{digit_of, numeral, label, is_number}
-use Rattle.response_format.specs.Rules.{begins, value_in, fault, after, cut}
+use Rattle.response_format.specs.Rules.{begins, value_in, line_rules, fault, after, cut}
 use Rattle.response_format.proofs.Labels.{label-past, label-long, begins-all}
 use Rattle.response_format.specs.Format.{Free, free-none, free_more, AllFree, all_none, all_more, join}
 use Rattle.response_machine.specs.Machine.{state, grown, value_start, labelled, separator_at, found, next, handed, closed, settled, stepped, start}
@@ -83,7 +85,7 @@ pairs-hand k (a ∷ []) = refl
 pairs-hand k (a ∷ b ∷ v) = first (ltb (digit_of a) 16) refl (pairs-hand k v)
   where
     second : (u : Bool) → digit_of a < 16 → handing k Pairs v ≡ bytes_as k (decoded v)
-        → told (pick u (event.Byte k (digit_of a % 16 * 16 + digit_of b)) event.Nothing) ++ handing k (pick u Pairs Broken) v
+        → told (pick u (Some (event.Byte k (digit_of a % 16 * 16 + digit_of b))) None) ++ handing k (pick u Pairs Broken) v
         ≡ bytes_as k (pick u ((digit_of a * 16 + digit_of b) ∷ decoded v) [])
     second true small h =
         let same : digit_of a % 16 * 16 + digit_of b ≡ digit_of a * 16 + digit_of b = omega arith in
@@ -197,24 +199,20 @@ module _ (k : ℕ) (e : Numbers) where
       ∙ ap₂ (λ x y. x ++ y) (line-hands k l)
       (events-feed (within k Empty l) f ∙ ap (λ c. told (settled k e c).event ++ events (settled k e c).reader f) (line-means k l))
 
-  events-stopped : (n : ℕ) (f : List ℕ) → events (state k e (Stopped n)) f ≡ []
+  events-stopped : (r : Refusal) (f : List ℕ) → events (state k e (Stopped r)) f ≡ []
   unfolding events next closed settled handed told
-  events-stopped n [] = refl
-  events-stopped n (b ∷ f) =
-      elim (ℕ_discrete b 10) [ yes i ↦ rw i (events-feed (Stopped n) f ∙ events-stopped n f) | no m ↦ events-byte (Stopped n) b f m ∙ events-stopped n f ]
+  events-stopped r [] = refl
+  events-stopped r (b ∷ f) =
+      elim (ℕ_discrete b 10) [ yes i ↦ rw i (events-feed (Stopped r) f ∙ events-stopped r f) | no m ↦ events-byte (Stopped r) b f m ∙ events-stopped r f ]
 
 closing-value : (k : ℕ) (e : Numbers) (v : List ℕ) → told (settled k e (value_of k v)).event ≡ value_closing k e v
 unfolding value_of settled told value_closing
 closing-value k e v = by (is_number k)
   where
-    last : (t : Bool) → told (pick t (event.Entry e) (event.Ended k)) ≡ pick t (event.Entry e) (event.Ended k) ∷ []
-    last true = refl
-    last false = refl
-
     by : (t : Bool) → told (settled k e (pick t (closed'.Value (numeral 0 v)) closed'.Bytes)).event
         ≡ pick t (event.Number k (numeral 0 v)) (pick (eqb k 7) (event.Entry e) (event.Ended k)) ∷ []
     by true = refl
-    by false = last (eqb k 7)
+    by false = refl
 
 closing-told : (k : ℕ) (e : Numbers) (l : List ℕ) → told (settled k e (sound k l)).event ≡ closing k e l
 unfolding sound closing settled told
@@ -222,10 +220,10 @@ closing-told k e [] = refl
 closing-told k e (b ∷ l) =
     elim (ℕ_discrete b 35) [ yes i ↦ rw (eq-eqb b 35 i) | no n ↦ rw (ne_eqb b 35 n) (closing-value k e (value_in k (b ∷ l))) ]
 
-fault-told : (k : ℕ) (e : Numbers) (n : ℕ) (f : List ℕ)
-    → told (settled k e (closed'.Fault n)).event ++ events (settled k e (closed'.Fault n)).reader f ≡ event.Refused n ∷ []
+fault-told : (k : ℕ) (e : Numbers) (r : Refusal) (f : List ℕ)
+    → told (settled k e (closed'.Fault r)).event ++ events (settled k e (closed'.Fault r)).reader f ≡ event.Refused r ∷ []
 unfolding settled told
-fault-told k e n f = ap (λ x. event.Refused n ∷ x) (events-stopped k e n f)
+fault-told k e r f = ap (λ x. event.Refused r ∷ x) (events-stopped k e r f)
 
 pub tells-lines : (k : ℕ) (e : Numbers) (ls : List (List ℕ)) (rest : List ℕ) → AllFree ls → Free rest → events (state k e Empty) (join ls rest) ≡ tells k e ls rest
 unfolding join tells events
@@ -234,17 +232,18 @@ tells-lines k e [] rest all_none h =
 tells-lines k e (l ∷ ls) rest (all_more g gs) h =
     elim (ℕ_discrete (fault k l) 0) [
       | yes z ↦
-          rw (eq-eqb (fault k l) 0 z)
+          rw (given-met (line_rules k l) (closing k e l ++ tells (after k l) (noted k l e) ls rest) z)
           (events-ended k e l (join ls rest) g
           ∙ ap (λ c. line_bytes k l ++ (told (settled k e c).event ++ events (settled k e c).reader (join ls rest))) (means-sound k l z)
           ∙ ap (λ x. line_bytes k l ++ x)
           (ap₂ (λ x r. x ++ events r (join ls rest)) (closing-told k e l) (settled-sound k e l z)
           ∙ ap (λ x. closing k e l ++ x) (tells-lines (after k l) (noted k l e) ls rest gs h)))
       | no n ↦
-          rw (ne_eqb (fault k l) 0 n)
+          let w = refuses (line_rules k l) n in
+          rw (given-refused (line_rules k l) (closing k e l ++ tells (after k l) (noted k l e) ls rest) w)
           (events-ended k e l (join ls rest) g
-          ∙ ap (λ c. line_bytes k l ++ (told (settled k e c).event ++ events (settled k e c).reader (join ls rest))) (means-fault k l n)
-          ∙ ap (λ x. line_bytes k l ++ x) (fault-told k e (fault k l) (join ls rest)))
+          ∙ ap (λ c. line_bytes k l ++ (told (settled k e c).event ++ events (settled k e c).reader (join ls rest))) (means-fault k l w)
+          ∙ ap (λ x. line_bytes k l ++ x) (fault-told k e w.refusal (join ls rest)))
     ]
 
 -- fed a file, the machine hands out what the file says

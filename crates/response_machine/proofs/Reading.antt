@@ -1,15 +1,19 @@
 -- The machine fed a whole file answers the file's refusal, and fed pieces it answers what it answers of the whole.
 -- Rests on Rules, Within and Machine.
-use Rattle.std.specs.Prelude.{◌≡◌, Bool, true, false, ◌↔◌, ℕ, zero, suc, ◌+◌, ◌<◌, ◌≤◌, eqb, ltb, length, drop, get_or}
+use Rattle.std.specs.Prelude.{◌≡◌, Bool, true, false, ◌↔◌, ℕ, zero, suc, ◌+◌, ◌<◌, ◌≤◌, eqb, ltb, length, drop, get_or, Ok, Err}
 use Rattle.std.proofs.Math.Path.{refl}
 use Rattle.std.proofs.Common.{sym, ap, ◌∙◌, add-one, arith, eq-eqb, ne_eqb, lt-ltb, ltb-true, drop-cons}
 use mathlib.Core.List.{List, [], ◌∷◌, ◌++◌, append-nil}
 use Rattle.std.proofs.Math.Decide.{ℕ_discrete}
 use Rattle.ground.specs.Pick.{pick, both, both_left}
-use Rattle.ground.specs.Answers.{first}
+use Rattle.ground.specs.Answers.{first, number_of}
+use Rattle.ground.specs.AnswerLaws.{demand-number, done-answer}
+use Rattle.response_format.specs.Given.{given-met, Refuses, refuses, given-refused}
+use Rattle.ground.specs.declared.Refusal.{Refusal}
 use Rattle.ground.specs.First.{first_passes}
+use Rattle.ground.specs.declared.Refusal.TheVariants.{BadLine, FieldOutOfOrder}
 use Rattle.response_format.specs.Fields.{digit_of, numeral, label, is_number}
-use Rattle.response_format.specs.Rules.{field_rules, separated, begins, line_rules, fault, after, refusal, refusal_of, cut}
+use Rattle.response_format.specs.Rules.{field_rules, separated, begins, line_rules, fault, after, whole, refusal, refusal_of, cut}
 use Rattle.response_format.specs.Tells.{keep, noted}
 use Rattle.response_format.specs.Cuts.{cut-is}
 use Rattle.response_format.proofs.Accepts.{format-exactly}
@@ -54,11 +58,11 @@ module _ (k : ℕ) (e : Numbers) where
   pub fed-ended : (l f : List ℕ) → Free l → fed (state k e Empty) (l ++ (10 ∷ f)) ≡ fed (settled k e (means k l)).reader f
   fed-ended l f h = fed-line Empty l (10 ∷ f) h ∙ fed-feed (within k Empty l) f ∙ ap (λ c. fed (settled k e c).reader f) (line-means k l)
 
-  pub fed-stopped : (n : ℕ) (f : List ℕ) → fed (state k e (Stopped n)) f ≡ state k e (Stopped n)
+  pub fed-stopped : (r : Refusal) (f : List ℕ) → fed (state k e (Stopped r)) f ≡ state k e (Stopped r)
   unfolding fed next closed settled
-  fed-stopped n [] = refl
-  fed-stopped n (b ∷ f) =
-      elim (ℕ_discrete b 10) [ yes i ↦ rw i (fed-feed (Stopped n) f ∙ fed-stopped n f) | no m ↦ fed-byte (Stopped n) b f m ∙ fed-stopped n f ]
+  fed-stopped r [] = refl
+  fed-stopped r (b ∷ f) =
+      elim (ℕ_discrete b 10) [ yes i ↦ rw i (fed-feed (Stopped r) f ∙ fed-stopped r f) | no m ↦ fed-byte (Stopped r) b f m ∙ fed-stopped r f ]
 
 -- ---- a sound line
 
@@ -66,8 +70,8 @@ module _ (k : ℕ) (e : Numbers) where
 pub field-due : (k : ℕ) (m : List ℕ) → first (field_rules k m) ≡ 0 → k < 8
 unfolding field_rules
 field-due k m z =
-    let (a, p) = first_passes 30 (separated m) _ (λ w. omega arith) z in
-    let (c, q) = first_passes 33 (both (ltb k 8) (begins (label k) m)) _ (λ w. omega arith) p in
+    let (a, p) = first_passes BadLine (separated m) _ z in
+    let (c, q) = first_passes FieldOutOfOrder (both (ltb k 8) (begins (label k) m)) _ p in
     ltb-true k 8 (both_left (ltb k 8) (begins (label k) m) c)
 
 pub settled-field : (k : ℕ) (e : Numbers) (v : List ℕ) → k < 8 → (settled k e (value_of k v)).reader ≡ state (k + 1) (pick (is_number k) (keep k (numeral 0 v) e) e) Empty
@@ -89,15 +93,15 @@ settled-sound k e (b ∷ l) z =
 
 pub means-sound : (k : ℕ) (l : List ℕ) → fault k l ≡ 0 → means k l ≡ sound k l
 unfolding means outcome
-means-sound k l z = rw (eq-eqb (fault k l) 0 z)
+means-sound k l z = rw (given-met (line_rules k l) (sound k l) z)
 
-pub means-fault : (k : ℕ) (l : List ℕ) → (fault k l ≡ 0 → ⊥) → means k l ≡ Fault (fault k l)
+pub means-fault : (k : ℕ) (l : List ℕ) (w : Refuses (line_rules k l)) → means k l ≡ Fault w.refusal
 unfolding means outcome
-means-fault k l n = rw (ne_eqb (fault k l) 0 n)
+means-fault k l w = rw (given-refused (line_rules k l) (sound k l) w)
 
-stopped-end : (k : ℕ) (e : Numbers) (n : ℕ) (f : List ℕ) → end_of (fed (settled k e (Fault n)).reader f) ≡ n
+stopped-end : (k : ℕ) (e : Numbers) (r : Refusal) (f : List ℕ) → end_of (fed (settled k e (Fault r)).reader f) ≡ Err r
 unfolding settled ended
-stopped-end k e n f = ap end_of (fed-stopped k e n f)
+stopped-end k e r f = ap end_of (fed-stopped k e r f)
 
 -- ---- an unfinished line
 
@@ -143,7 +147,7 @@ unfolding within
 busy-within k s [] h = h
 busy-within k s (b ∷ l) h = busy-within k (next k s b) l (busy-next k b h)
 
-busy-ended : (k : ℕ) {s : Line} → Busy s → ended k s ≡ 30
+busy-ended : (k : ℕ) {s : Line} → Busy s → ended k s ≡ Err BadLine
 unfolding ended
 busy-ended k in-comment = refl
 busy-ended k in-label = refl
@@ -154,10 +158,10 @@ busy-ended k in-number = refl
 busy-ended k in_pairs = refl
 busy-ended k in-half = refl
 
-pub ended-rest : (k : ℕ) (rest : List ℕ) → ended k (within k Empty rest) ≡ refusal k [] rest
+pub ended-rest : (k : ℕ) (rest : List ℕ) → number_of (ended k (within k Empty rest)) ≡ refusal k [] rest
 unfolding within ended refusal
-ended-rest k [] = refl
-ended-rest k (b ∷ rest) = busy-ended k (busy-within k (next k Empty b) rest (busy-first k b))
+ended-rest k [] = demand-number (whole k) FieldOutOfOrder
+ended-rest k (b ∷ rest) = ap number_of (busy-ended k (busy-within k (next k Empty b) rest (busy-first k b)))
 
 busy-going : {s : Line} → Busy s → is_stopped s ≡ false
 unfolding is_stopped
@@ -180,34 +184,36 @@ rest-going k (b ∷ rest) = busy-going (busy-within k (next k Empty b) rest (bus
 
 -- fed the lines and the rest of a file, the machine ends with the file's refusal
 pub reads_lines : (k : ℕ) (e : Numbers) (ls : List (List ℕ)) (rest : List ℕ) → AllFree ls → Free rest
-    → end_of (fed (state k e Empty) (join ls rest)) ≡ refusal k ls rest
+    → number_of (end_of (fed (state k e Empty) (join ls rest))) ≡ refusal k ls rest
 unfolding join refusal fed
-reads_lines k e [] rest all_none h = ap end_of (ap (fed (state k e Empty)) (sym (append-nil rest)) ∙ fed-line k e Empty rest [] h) ∙ ended-rest k rest
+reads_lines k e [] rest all_none h = ap (λ r. number_of (end_of r)) (ap (fed (state k e Empty)) (sym (append-nil rest)) ∙ fed-line k e Empty rest [] h) ∙ ended-rest k rest
 reads_lines k e (l ∷ ls) rest (all_more g gs) h =
     elim (ℕ_discrete (fault k l) 0) [
       | yes z ↦
           rw (eq-eqb (fault k l) 0 z)
-          (ap end_of (fed-ended k e l (join ls rest) g)
-          ∙ ap (λ r. end_of (fed r (join ls rest))) (ap (λ c. (settled k e c).reader) (means-sound k l z) ∙ settled-sound k e l z)
+          (ap (λ r. number_of (end_of r)) (fed-ended k e l (join ls rest) g)
+          ∙ ap (λ r. number_of (end_of (fed r (join ls rest)))) (ap (λ c. (settled k e c).reader) (means-sound k l z) ∙ settled-sound k e l z)
           ∙ reads_lines (after k l) (noted k l e) ls rest gs h)
       | no n ↦
+          let w = refuses (line_rules k l) n in
           rw (ne_eqb (fault k l) 0 n)
-          (ap end_of (fed-ended k e l (join ls rest) g)
-          ∙ ap (λ c. end_of (fed (settled k e c).reader (join ls rest))) (means-fault k l n)
-          ∙ stopped-end k e (fault k l) (join ls rest))
+          (ap (λ r. number_of (end_of r)) (fed-ended k e l (join ls rest) g)
+          ∙ ap (λ c. number_of (end_of (fed (settled k e c).reader (join ls rest)))) (means-fault k l w)
+          ∙ ap number_of (stopped-end k e w.refusal (join ls rest))
+          ∙ w.number)
     ]
 
 -- ---- a file
 
 -- the machine ends with the file's refusal
-pub reads : (f : List ℕ) → end_of (fed start f) ≡ refusal_of f
+pub reads : (f : List ℕ) → number_of (end_of (fed start f)) ≡ refusal_of f
 reads f =
     let w = cut-is f in
-    ap (λ g. end_of (fed start g)) (sym w.is) ∙ reads_lines 0 start.numbers (cut f).lines (cut f).rest w.free w.last
+    ap (λ g. number_of (end_of (fed start g))) (sym w.is) ∙ reads_lines 0 start.numbers (cut f).lines (cut f).rest w.free w.last
 
 -- the reader accepts exactly the files of the format
-pub accepts-exactly : (f : List ℕ) → (end_of (fed start f) ≡ 0) ↔ Format f
-accepts-exactly f = ((λ z. (format-exactly f).0 (sym (reads f) ∙ z)), (λ w. reads f ∙ (format-exactly f).1 w))
+pub accepts-exactly : (f : List ℕ) → (end_of (fed start f) ≡ Ok tt) ↔ Format f
+accepts-exactly f = ((λ d. (format-exactly f).0 (sym (reads f) ∙ ap number_of d)), (λ w. done-answer (reads f ∙ (format-exactly f).1 w)))
 
 -- ---- a piece in parts
 

@@ -7,7 +7,10 @@ use Rattle.std.proofs.Math.Decide.{ℕ_discrete, dec_lt, dec_le}
 use Rattle.std.proofs.Math.Seq.{drop-append_seam}
 use borrow.Author.Tests.{eq-eqb, ne_eqb, lt-ltb, le-ltb, le-leb, lt-leb}
 use Rattle.ground.specs.Pick.{pick, both}
-use Rattle.ground.specs.Answers.{Rule, unless, first}
+use Rattle.ground.specs.Answers.{Rule, unless}
+use Rattle.response_format.specs.Given.{given}
+use Rattle.ground.specs.declared.Refusal.{Refusal}
+use Rattle.ground.specs.declared.Refusal.TheVariants.{BadLine, OddDigits, NotADigit, FieldOutOfOrder, NumberTooLarge}
 use Rattle.ground.specs.Tests.{every, below2, both_first, both_rest}
 use Rattle.response_format.specs.Fields.{digit_of, numeral, label, is_number}
 use Rattle.response_format.specs.Rules.{begins, separated, all_digits, some, paired, value_in, number_rules, bytes_rules, value_rules, field_rules, whole, line_rules}
@@ -30,42 +33,42 @@ unfolding within next
 comment-stays k [] = refl
 comment-stays k (b ∷ l) = comment-stays k l
 
-pub stopped-stays : (k n : ℕ) (l : List ℕ) → within k (Stopped n) l ≡ Stopped n
+pub stopped-stays : (k : ℕ) (r : Refusal) (l : List ℕ) → within k (Stopped r) l ≡ Stopped r
 unfolding within next
-stopped-stays k n [] = refl
-stopped-stays k n (b ∷ l) = stopped-stays k n l
+stopped-stays k r [] = refl
+stopped-stays k r (b ∷ l) = stopped-stays k r l
 
 pub other-scans : (k j : ℕ) (l : List ℕ) → within k (Other j) l ≡ Other (scan j l)
 unfolding within next scan
 other-scans k j [] = refl
 other-scans k j (b ∷ l) = other-scans k (found j b) l
 
-other-closed : (k j : ℕ) → closed k (Other j) ≡ Fault (pick (eqb j 3) 33 30)
+other-closed : (k j : ℕ) → closed k (Other j) ≡ Fault (pick (eqb j 3) FieldOutOfOrder BadLine)
 unfolding closed
 other-closed k j = refl
 
-broken-closed : (k : ℕ) (l : List ℕ) → closed k (within k Broken l) ≡ Fault 32
+broken-closed : (k : ℕ) (l : List ℕ) → closed k (within k Broken l) ≡ Fault NotADigit
 unfolding closed
 broken-closed k l = ap (closed k) (broken-stays k l)
 
 -- ---- hexadecimal digits
 
 pairs-close : (k : ℕ) (v : List ℕ) → closed k (within k Pairs v) ≡ outcome (bytes_rules v) Bytes
-unfolding within next closed outcome first all_digits paired
+unfolding within next closed outcome given all_digits paired
 pairs-close k [] = refl
 pairs-close k (a ∷ []) = by (ltb (digit_of a) 16)
   where
-    by : (t : Bool) → closed k (pick t (Half (digit_of a)) Broken) ≡ outcome (unless 32 (both t true) ∷ unless 31 false ∷ []) Bytes
+    by : (t : Bool) → closed k (pick t (Half (digit_of a)) Broken) ≡ outcome (unless NotADigit (both t true) ∷ unless OddDigits false ∷ []) Bytes
     by true = refl
     by false = refl
 pairs-close k (a ∷ b ∷ v) = first (ltb (digit_of a) 16) (pairs-close k v)
   where
-    second : (u : Bool) → closed k (within k Pairs v) ≡ outcome (bytes_rules v) Bytes → closed k (within k (pick u Pairs Broken) v) ≡ outcome (unless 32 (both u (all_digits 16 v)) ∷ unless 31 (paired v) ∷ []) Bytes
+    second : (u : Bool) → closed k (within k Pairs v) ≡ outcome (bytes_rules v) Bytes → closed k (within k (pick u Pairs Broken) v) ≡ outcome (unless NotADigit (both u (all_digits 16 v)) ∷ unless OddDigits (paired v) ∷ []) Bytes
     second true h = h
     second false h = broken-closed k v
 
     first : (t : Bool) → closed k (within k Pairs v) ≡ outcome (bytes_rules v) Bytes → closed k (within k (next k (pick t (Half (digit_of a)) Broken) b) v)
-        ≡ outcome (unless 32 (both t (both (ltb (digit_of b) 16) (all_digits 16 v))) ∷ unless 31 (paired v) ∷ []) Bytes
+        ≡ outcome (unless NotADigit (both t (both (ltb (digit_of b) 16) (all_digits 16 v))) ∷ unless OddDigits (paired v) ∷ []) Bytes
     first true h = second (ltb (digit_of b) 16) h
     first false h = broken-closed k v
 
@@ -84,33 +87,33 @@ unfolding Agrees grown
 agrees-next n m d (inl h) = rw (le-leb n 4294967295 (omega arith)) (agrees-same (n * 10 + d) (m * 10 + d) (omega arith))
 agrees-next n m d (inr h) = rw (lt-leb n 4294967295 h.1) (inr (omega arith, h.1))
 
-number-end : (k n m : ℕ) → Agrees n m → closed k (Number n) ≡ outcome (unless 32 true ∷ unless 34 (leb m 4294967295) ∷ []) (Value m)
-unfolding Agrees closed outcome first
+number-end : (k n m : ℕ) → Agrees n m → closed k (Number n) ≡ outcome (unless NotADigit true ∷ unless NumberTooLarge (leb m 4294967295) ∷ []) (Value m)
+unfolding Agrees closed outcome given
 number-end k n m (inl h) = rw (h.1, le-leb m 4294967295 h.0)
 number-end k n m (inr h) = rw (lt-leb m 4294967295 h.0, lt-leb n 4294967295 h.1)
 
 number-close : (k n m : ℕ) (v : List ℕ) → Agrees n m
-    → closed k (within k (Number n) v) ≡ outcome (unless 32 (all_digits 10 v) ∷ unless 34 (leb (numeral m v) 4294967295) ∷ []) (Value (numeral m v))
-unfolding within next outcome first all_digits numeral
+    → closed k (within k (Number n) v) ≡ outcome (unless NotADigit (all_digits 10 v) ∷ unless NumberTooLarge (leb (numeral m v) 4294967295) ∷ []) (Value (numeral m v))
+unfolding within next outcome given all_digits numeral
 number-close k n m [] g = number-end k n m g
 number-close k n m (b ∷ v) g =
     by (ltb (digit_of b) 10) (number-close k (grown n (digit_of b)) (m * 10 + digit_of b) v (agrees-next n m (digit_of b) g))
   where
     good : List Rule
-    good = unless 32 (all_digits 10 v) ∷ unless 34 (leb (numeral (m * 10 + digit_of b) v) 4294967295) ∷ []
+    good = unless NotADigit (all_digits 10 v) ∷ unless NumberTooLarge (leb (numeral (m * 10 + digit_of b) v) 4294967295) ∷ []
 
     by : (t : Bool) → closed k (within k (Number (grown n (digit_of b))) v) ≡ outcome good (Value (numeral (m * 10 + digit_of b) v)) → closed k (within k (pick t (Number (grown n (digit_of b))) Broken) v)
-        ≡ outcome (unless 32 (both t (all_digits 10 v)) ∷ unless 34 (leb (numeral (m * 10 + digit_of b) v) 4294967295) ∷ []) (Value (numeral (m * 10 + digit_of b) v))
+        ≡ outcome (unless NotADigit (both t (all_digits 10 v)) ∷ unless NumberTooLarge (leb (numeral (m * 10 + digit_of b) v) 4294967295) ∷ []) (Value (numeral (m * 10 + digit_of b) v))
     by true h = h
     by false h = broken-closed k v
 
 no-digit-close : (k : ℕ) (v : List ℕ) → closed k (within k NoDigit v) ≡ outcome (number_rules v) (Value (numeral 0 v))
-unfolding within next closed outcome first all_digits numeral some
+unfolding within next closed outcome given all_digits numeral some
 no-digit-close k [] = refl
 no-digit-close k (b ∷ v) = by (ltb (digit_of b) 10)
   where
     by : (t : Bool) → closed k (within k (pick t (Number (digit_of b)) Broken) v)
-        ≡ outcome (unless 32 (both t (all_digits 10 v)) ∷ unless 34 (leb (numeral (0 * 10 + digit_of b) v) 4294967295) ∷ []) (Value (numeral (0 * 10 + digit_of b) v))
+        ≡ outcome (unless NotADigit (both t (all_digits 10 v)) ∷ unless NumberTooLarge (leb (numeral (0 * 10 + digit_of b) v) 4294967295) ∷ []) (Value (numeral (0 * 10 + digit_of b) v))
     by true = number-close k (digit_of b) (0 * 10 + digit_of b) v (agrees-same _ _ (omega arith))
     by false = broken-closed k v
 
@@ -126,22 +129,22 @@ value-close k v = by (is_number k)
 
 -- ---- a field's line
 
-no-separator : (k : ℕ) (m : List ℕ) → separated m ≡ false → field_outcome k m ≡ Fault 30
-unfolding field_outcome outcome field_rules first
+no-separator : (k : ℕ) (m : List ℕ) → separated m ≡ false → field_outcome k m ≡ Fault BadLine
+unfolding field_outcome outcome field_rules given
 no-separator k m s = rw s
 
 -- a line that does not begin with the label that is due
-other-label : (k : ℕ) (m : List ℕ) → both (ltb k 8) (begins (label k) m) ≡ false → field_outcome k m ≡ Fault (pick (separated m) 33 30)
-unfolding field_outcome outcome field_rules first
+other-label : (k : ℕ) (m : List ℕ) → both (ltb k 8) (begins (label k) m) ≡ false → field_outcome k m ≡ Fault (pick (separated m) FieldOutOfOrder BadLine)
+unfolding field_outcome outcome field_rules given
 other-label k m n = by (separated m) refl
   where
-    by : (s : Bool) → separated m ≡ s → field_outcome k m ≡ Fault (pick (separated m) 33 30)
+    by : (s : Bool) → separated m ≡ s → field_outcome k m ≡ Fault (pick (separated m) FieldOutOfOrder BadLine)
     by true e = rw (e, n)
     by false e = rw e
 
 right-label : (k : ℕ) (m : List ℕ) → separated m ≡ true → both (ltb k 8) (begins (label k) m) ≡ true
     → field_outcome k m ≡ outcome (value_rules k (value_in k m)) (value_of k (value_in k m))
-unfolding field_outcome outcome field_rules first
+unfolding field_outcome outcome field_rules given
 right-label k m s n = rw (s, n)
 
 pub begins-miss : (p : List ℕ) (i b : ℕ) (l : List ℕ) → i < length p → (b ≡ get_or p i 0 → ⊥) → begins p (take i p ++ (b ∷ l)) ≡ false
@@ -206,11 +209,11 @@ module _ (k : ℕ) (due : k < 8) where
             rw (lt-ltb _ _ h, ne_eqb _ _ n)
             (ap (closed k) (other-scans k _ l)
             ∙ other-closed k (scan (found (separator_at k i) b) l)
-            ∙ ap (λ s. Fault (pick s 33 30)) (sym (scan-off i b l h))
+            ∙ ap (λ s. Fault (pick s FieldOutOfOrder BadLine)) (sym (scan-off i b l h))
             ∙ sym (other-label k (take i (label k) ++ (b ∷ l)) (rw (lt-ltb k 8 due) (begins-miss (label k) i b l h n))))
       ]
 
-  label-end : (i : ℕ) → i < length (label k) → field_outcome k (take i (label k) ++ []) ≡ Fault 30
+  label-end : (i : ℕ) → i < length (label k) → field_outcome k (take i (label k) ++ []) ≡ Fault BadLine
   label-end i h =
       no-separator k (take i (label k) ++ [])
       (separated-scan (take i (label k) ++ []) ∙ rw (append-nil, scan-label i h) (let few = scan-open i h in ne_eqb (separator_at k i) 3 (λ e. omega arith)))
@@ -228,17 +231,17 @@ past-close k b l h =
     rw none
     (ap (closed k) (other-scans k (found 0 b) l)
     ∙ other-closed k (scan (found 0 b) l)
-    ∙ ap (λ s. Fault (pick s 33 30)) (sym (separated-scan (b ∷ l) ∙ ap (λ j. eqb j 3) (scan-more 0 b l)))
+    ∙ ap (λ s. Fault (pick s FieldOutOfOrder BadLine)) (sym (separated-scan (b ∷ l) ∙ ap (λ j. eqb j 3) (scan-more 0 b l)))
     ∙ sym (other-label k (b ∷ l) (rw (le-ltb k 8 h))))
 
 -- ---- any line
 
 -- the machine's line is what the rules say
 pub line-means : (k : ℕ) (l : List ℕ) → closed k (within k Empty l) ≡ means k l
-unfolding within next closed means outcome line_rules first sound field_outcome
+unfolding within next closed means outcome line_rules given sound field_outcome
 line-means k [] = by (whole k)
   where
-    by : (t : Bool) → pick t Gap (Fault 33) ≡ outcome (unless 33 t ∷ []) Gap
+    by : (t : Bool) → pick t Gap (Fault FieldOutOfOrder) ≡ outcome (unless FieldOutOfOrder t ∷ []) Gap
     by true = refl
     by false = refl
 line-means k (b ∷ l) =

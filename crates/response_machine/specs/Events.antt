@@ -1,19 +1,14 @@
 -- What a reader tells of a piece. proofs/Events proves that it is what the file says, byte by byte and however it is cut.
 -- Rests on Machine.
-use Rattle.std.specs.Prelude.{ℕ}
+use Rattle.std.specs.Prelude.{ℕ, Option, Some, None}
 use mathlib.Core.List.{List, [], ◌∷◌, ◌++◌}
 use Rattle.response_machine.specs.Machine.{stepped}
 use Rattle.response_machine.specs.declared.Reader.{Reader}
 use Rattle.response_format.specs.declared.Event.{Event}
-use Rattle.response_format.specs.declared.Event.TheVariants as event
 
-unfoldable pub told : Event → List Event
-told event.Nothing = []
-told (event.Byte k b) = event.Byte k b ∷ []
-told (event.Number k n) = event.Number k n ∷ []
-told (event.Ended k) = event.Ended k ∷ []
-told (event.Entry e) = event.Entry e ∷ []
-told (event.Refused n) = event.Refused n ∷ []
+unfoldable pub told : Option Event → List Event
+told None = []
+told (Some v) = v ∷ []
 
 -- what a reader tells of a piece
 unfoldable pub events : Reader → List ℕ → List Event

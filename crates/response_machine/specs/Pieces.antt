@@ -1,12 +1,11 @@
 -- Feeding a piece, place by place.
 -- Rests on Machine.
-use Rattle.std.specs.Prelude.{◌≡◌, refl, true, false, List, [], ◌∷◌, ℕ, zero, suc, ◌+◌, ◌<◌, ◌≤◌, length, get_or, drop}
+use Rattle.std.specs.Prelude.{◌≡◌, refl, true, false, List, [], ◌∷◌, ℕ, zero, suc, ◌+◌, ◌<◌, ◌≤◌, length, get_or, drop, None}
 use Rattle.std.proofs.Common.{drop-cons, not-suc-le-zero, arith}
 use Rattle.std.proofs.Math.Numerals.{add-one}
 use Rattle.response_machine.specs.Machine.{stepped, telling, stop, feeds}
 use Rattle.response_machine.specs.declared.Reader.{Reader}
 use Rattle.response_machine.specs.declared.Stepped.{Stepped}
-use Rattle.response_format.specs.declared.Event.TheVariants as event
 
 pub drop_all : (i : ℕ) (p : List ℕ) → length p ≤ i → drop i p ≡ []
 drop_all zero [] h = refl
@@ -25,6 +24,6 @@ module _ (r : Reader) (i : ℕ) (p : List ℕ) where
   unfolding feeds
   feeds-goes {s} h e t = rw (drop-cons p i 0 h, ← e, t, add-one i)
 
-  pub feeds-end : length p ≤ i → stop r event.Nothing i ≡ feeds r i (drop i p)
+  pub feeds-end : length p ≤ i → stop r None i ≡ feeds r i (drop i p)
   unfolding feeds
   feeds-end h = rw (drop_all i p h)

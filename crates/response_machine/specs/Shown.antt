@@ -2,6 +2,7 @@
 -- Rests on Events and Reads.
 use Rattle.std.specs.Prelude.{List, [], ℕ}
 use Rattle.ground.specs.Pick.{pick}
+use Rattle.ground.specs.Answers.{number_of}
 use Rattle.response_format.specs.Text.{text_of, end_text}
 use Rattle.response_machine.specs.Machine.{is_stopped}
 use Rattle.response_machine.specs.Reads.{end_of}
@@ -14,4 +15,4 @@ written r p = text_of (events r p)
 
 -- what is written at the file's end: the refusal there, unless one was told before
 unfoldable pub closing_text : Reader → List ℕ
-closing_text r = pick (is_stopped r.line) [] (end_text (end_of r))
+closing_text r = pick (is_stopped r.line) [] (end_text (number_of (end_of r)))

@@ -1,8 +1,10 @@
 -- A line: the machine's state after the line's bytes, and what the line comes to by its rules. proofs/Within proves that both say the same.
 -- Rests on Rules and Machine.
-use Rattle.std.specs.Prelude.{List, [], ◌∷◌, ℕ, eqb}
+use Rattle.std.specs.Prelude.{List, [], ◌∷◌, ℕ, eqb, Result, Ok, Err}
 use Rattle.ground.specs.Pick.{pick}
-use Rattle.ground.specs.Answers.{Rule, first}
+use Rattle.ground.specs.Answers.{Rule}
+use Rattle.response_format.specs.Given.{given}
+use Rattle.ground.specs.declared.Refusal.{Refusal}
 use Rattle.response_format.specs.Fields.{numeral, is_number}
 use Rattle.response_format.specs.Rules.{value_in, field_rules, line_rules}
 use Rattle.response_machine.specs.Machine.{next}
@@ -15,9 +17,13 @@ unfoldable pub within : ℕ → Line → List ℕ → Line
 within k s [] = s
 within k s (b ∷ l) = within k (next k s b) l
 
--- what rules come to: the first that is not met, or the good outcome
+-- what rules come to: the refusal of the first that is not met, or the good outcome
+abbrev pub or_fault : Result Closed Refusal → Closed
+or_fault (Ok good) = good
+or_fault (Err r) = Fault r
+
 unfoldable pub outcome : List Rule → Closed → Closed
-outcome rules good = pick (eqb (first rules) 0) good (Fault (first rules))
+outcome rules good = or_fault (given rules good)
 
 unfoldable pub value_of : ℕ → List ℕ → Closed
 value_of k v = pick (is_number k) (Value (numeral 0 v)) Bytes

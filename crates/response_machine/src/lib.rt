@@ -2,6 +2,7 @@
 // means the format of response_format. The code stands in responses, so that an edit of it does not check the theory again.
 #![tactic(auto)]
 
+use ground::Refusal;
 use response_format::{Event, Numbers};
 
 // What a line has come to, from its first byte to the last one read.
@@ -26,7 +27,7 @@ pub enum Line {
     // digit pairs and the first digit of one more
     Half(u8),
     // a line before was refused
-    Stopped(u32),
+    Stopped(Refusal),
 }
 
 // How many fields of the entry are read (8: all, and an empty line is due), its numbers, and the line.
@@ -44,28 +45,28 @@ pub enum Closed {
     Skipped,
     Value(u64),
     Bytes,
-    Fault(u32),
-    Over(u32),
+    Fault(Refusal),
+    Over(Refusal),
 }
 
-// The reader after a byte, and what the byte brings.
+// The reader after a byte, and what the byte brings, if anything.
 #[derive(Clone, Copy)]
 pub struct Stepped {
     pub reader: Reader,
-    pub event: Event,
+    pub event: Option<Event>,
 }
 
-// A reader after a part of a piece: what was told last, and where the part ends.
+// A reader after a part of a piece: the entry or the refusal that ends it, if any, and where the part ends.
 #[derive(Clone, Copy)]
 pub struct Fed {
     pub reader: Reader,
-    pub event: Event,
+    pub event: Option<Event>,
     pub at: usize,
 }
 
-// Where the line of a field stands in a file, without its line feed; or nowhere: the file's refusal before it, 0 where the file ends and nothing is at fault.
+// Where the line of a field stands in a file, without its line feed.
 #[derive(Clone, Copy)]
-pub enum Place {
-    Between(usize, usize),
-    Nowhere(u32),
+pub struct Span {
+    pub from: usize,
+    pub to: usize,
 }

@@ -1,7 +1,7 @@
 -- A text at the end of 80 bytes, zeros before it, and how it grows from the front.
 -- Rests on Text of response_format, and on the kit's lists.
-use Rattle.std.specs.Prelude.{◌≡◌, refl, List, ◌∷◌, ◌++◌, ℕ, zero, suc, ◌+◌, ◌-◌, ◌/◌, ◌%◌, ◌<◌, ◌≤◌, eqb, leb, length, set, drop, replicate}
-use Rattle.std.proofs.Common.{sym, ap, ap₂, ◌∙◌, arith, drop_at, eq-eqb, ne_eqb, le-leb}
+use Rattle.std.specs.Prelude.{◌≡◌, refl, List, [], ◌∷◌, ◌++◌, get_or, ℕ, zero, suc, ◌+◌, ◌-◌, ◌/◌, ◌%◌, ◌<◌, ◌≤◌, eqb, leb, length, set, drop, replicate}
+use Rattle.std.proofs.Common.{sym, ap, ap₂, ◌∙◌, arith, drop_at, drop-cons, drop_of_length-le, add-one, length-append, eq-eqb, ne_eqb, le-leb}
 use Rattle.std.proofs.Math.Decide.{ℕ_discrete}
 use Rattle.std.proofs.lemmas.List.{length-replicate, set_at}
 use Rattle.ground.specs.Pick.{pick}
@@ -19,6 +19,11 @@ placed-is t = drop_at (replicate (80 - length t) 0) t (80 - length t) (length-re
 -- one byte before it; where there is no room, nothing
 unfoldable pub put : Text → ℕ → Text
 put x b = pick (eqb x.from 0) x (pick (leb x.from 80) (record { bytes = set x.bytes (x.from - 1) b; from = x.from - 1 }) x)
+
+-- a word before it
+unfoldable pub put_all : List ℕ → Text → Text
+put_all [] x = x
+put_all (b ∷ v) x = put (put_all v x) b
 
 unfoldable pub put_digits : ℕ → ℕ → Text → Text
 put_digits zero n x = x
@@ -73,6 +78,23 @@ pub digits-out : (d n : ℕ) (x : Text) {w : Text} → put_digits d n x ≡ w �
 unfolding put_digits
 digits-out zero n x e z = e
 digits-out (suc d) n x e z = absurd (omega arith)
+
+-- a word is put from its last byte on
+pub put-all-none : (v : List ℕ) (x : Text) (n : ℕ) → length v ≤ n → x ≡ put_all (drop n v) x
+unfolding put_all
+put-all-none v x n h = rw (drop_of_length-le v h)
+
+pub put-all-next : (v : List ℕ) (x : Text) (n : ℕ) → n < length v → put (put_all (drop (n + 1) v) x) (get_or v n 0) ≡ put_all (drop n v) x
+unfolding put_all
+put-all-next v x n h = rw (drop-cons v n 0 h, add-one n)
+
+pub all-placed : (v t : List ℕ) → length v + length t ≤ 80 → put_all v (placed t) ≡ placed (v ++ t)
+unfolding put_all
+all-placed [] t h = refl
+all-placed (b ∷ v) t h = ap (λ x. put x b) (all-placed v t (omega arith)) ∙ put-placed (v ++ t) b (omega (arith, length-append v t))
+
+pub after-word : (v t : List ℕ) {x y : Text} → x ≡ placed t → length v + length t ≤ 80 → y ≡ put_all v x → y ≡ placed (v ++ t)
+after-word v t e h w = w ∙ ap (put_all v) e ∙ all-placed v t h
 
 pub after-put : (t : List ℕ) (b : ℕ) {x y : Text} → x ≡ placed t → length t < 80 → y ≡ put x b → y ≡ placed (b ∷ t)
 after-put t b e h w = w ∙ ap (λ z. put z b) e ∙ put-placed t b h

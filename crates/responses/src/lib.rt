@@ -13,6 +13,7 @@ pub use response_lines::decode;
 pub use telling::{end_text, entry_text, event_text, refused_text};
 
 // A text that stands at the end of 80 bytes, from a place on; zeros before it.
+// An array of fixed length, and no `String`: the project uses no heap.
 #[derive(Clone, Copy)]
 pub struct Text {
     pub bytes: [u8; 80],

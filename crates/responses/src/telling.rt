@@ -1,9 +1,11 @@
 // The text of what is told, made before it is written: a value that is filled from its end.
 ghost use Rattle.std.specs.Prelude.{◌≡◌, ◌+◌, ◌%◌, []};
+ghost use Rattle.ground.specs.Answers.{code, number_of};
 ghost use Rattle.response_format.specs.Text.{entry_text, refused_text, end_text, event_text};
-ghost use Rattle.responses.specs.Placed.{placed, put, put_digits};
+ghost use Rattle.responses.specs.Placed.{placed, put, put_all, put_digits};
 
 use crate::Text;
+use ground::Refusal;
 use response_format::{Event, Numbers};
 
 // No text yet.
@@ -17,26 +19,23 @@ fn no_text() -> Text
 }
 
 // One byte before a text.
+#[tactic(auto, unfolding(crate::specs::Placed::put))]
 fn put(text: Text, byte: u8) -> Text
     ensures { result ≡ put text byte }
 {
-    let from = text.from;
-    if from == 0 {
-        return text;
+    let mut longer = text;
+    if 1 <= text.from && text.from <= 80 {
+        longer.from = text.from - 1;
+        longer.bytes[longer.from] = byte;
     }
-    if from > 80 {
-        return text;
-    }
-    let mut bytes = text.bytes;
-    let at = from - 1;
-    bytes[at] = byte;
-    Text { bytes, from: at }
+    longer
 }
 
+// By hand here and in put_decimal, since a number's digits go before a text, the last one first: no plainer.
 fn last_digit(n: u64) -> u8
     ensures { result ≡ 48 + n % 10 }
 {
-    48 + (n % 10) as u8
+    b'0' + (n % 10) as u8
 }
 
 // The decimal digits of n before a text.
@@ -45,15 +44,12 @@ fn put_decimal(text: Text, n: u64) -> Text
 {
     let mut here = text;
     let mut rest = n;
-    let mut left = 20usize;
-    while left > 0 {
-        let more = put(here, last_digit(rest));
-        here = more;
+    for _ in 0..20usize {
+        here = put(here, last_digit(rest));
         rest /= 10;
         if rest == 0 {
-            return here;
+            break;
         }
-        left -= 1;
     }
     here
 }
@@ -62,51 +58,53 @@ fn put_decimal(text: Text, n: u64) -> Text
 pub fn entry_text(e: Numbers) -> Text
     ensures { result ≡ placed (entry_text e) }
 {
-    let end = put(no_text(), 10);
+    let end = put(no_text(), b'\n');
     let smlen = put_decimal(end, e.smlen);
-    let before_smlen = put(smlen, 32);
+    let before_smlen = put(smlen, b' ');
     let mlen = put_decimal(before_smlen, e.mlen);
-    let before_mlen = put(mlen, 32);
+    let before_mlen = put(mlen, b' ');
     put_decimal(before_mlen, e.count)
 }
 
-// "refused ", the number and a line feed.
-pub fn refused_text(n: u32) -> Text
-    ensures { result ≡ placed (refused_text n) }
+// A word before a text, from its last letter on.
+fn put_word(text: Text, word: &[u8]) -> Text
+    ensures { result ≡ put_all word.now text }
 {
-    let end = put(no_text(), 10);
-    let number = put_decimal(end, n as u64);
-    let space = put(number, 32);
-    let d = put(space, 100);
-    let ed = put(d, 101);
-    let sed = put(ed, 115);
-    let used = put(sed, 117);
-    let fused = put(used, 102);
-    let efused = put(fused, 101);
-    put(efused, 114)
+    let mut here = text;
+    for i in (0..word.len()).rev() {
+        here = put(here, word[i]);
+    }
+    here
+}
+
+// "refused ", the number and a line feed.
+pub fn refused_text(refusal: Refusal) -> Text
+    ensures { result ≡ placed (refused_text (code refusal)) }
+{
+    let end = put(no_text(), b'\n');
+    let number = put_decimal(end, u64::from(u32::from(refusal)));
+    put_word(number, b"refused ")
 }
 
 // The text of what a file tells: none but for an entry and a refusal.
+#[tactic(auto, unfolding(response_format::specs::Text::event_text))]
 pub fn event_text(event: Event) -> Text
     ensures { result ≡ placed (event_text event) }
 {
     match event {
-        Event::Nothing => no_text(),
-        Event::Byte(_, _) => no_text(),
-        Event::Number(_, _) => no_text(),
-        Event::Ended(_) => no_text(),
         Event::Entry(e) => entry_text(e),
-        Event::Refused(n) => refused_text(n),
+        Event::Refused(refusal) => refused_text(refusal),
+        _ => no_text(),
     }
 }
 
-// The text of the refusal at a file's end: none for 0.
+// The text of the answer at a file's end: none but for a refusal.
 #[tactic(auto, unfolding(response_format::specs::Text::end_text))]
-pub fn end_text(n: u32) -> Text
-    ensures { result ≡ placed (end_text n) }
+pub fn end_text(answer: Result<(), Refusal>) -> Text
+    ensures { result ≡ placed (end_text (number_of answer)) }
 {
-    if n == 0 {
-        return no_text();
+    match answer {
+        Ok(()) => no_text(),
+        Err(refusal) => refused_text(refusal),
     }
-    refused_text(n)
 }

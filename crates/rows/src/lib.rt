@@ -19,11 +19,9 @@ pub fn add_scaled(dst: &mut [u8], at: usize, src: &[u8], from: usize, n: usize, 
     let s2 = field::twice(s1);
     let s4 = field::twice(s2);
     let s8 = field::twice(s4);
-    let mut i = 0;
-    while i < n {
+    for i in 0..n {
         let b = src[from + i];
         dst[at + i] ^= field::chosen(s1, s2, s4, s8, b);
-        i += 1;
     }
 }
 
@@ -32,10 +30,8 @@ pub fn add_elements(dst: &mut [u8], at: usize, stream: &[u8], from: usize, n: us
     requires { (at + n ≤ length dst.old) × (from + n ≤ 2 * length stream.now) }
     ensures { Plus dst.old at n (λ c. element stream.now (from + c)) dst.new }
 {
-    let mut c = 0;
-    while c < n {
+    for c in 0..n {
         dst[at + c] ^= packing::element(stream, from + c);
-        c += 1;
     }
 }
 
@@ -59,12 +55,10 @@ pub fn add_columns(
         dst.new }
 {
     let mut from = first * n;
-    let mut x = 0;
-    while x < count {
+    for x in 0..count {
         let scalar = scalars[place + x * stride];
         add_scaled(dst, at, src, from, n, scalar);
         from += n;
-        x += 1;
     }
 }
 
@@ -74,10 +68,8 @@ pub fn put_row(bytes: &mut [u8], from: usize, row: &[u8], at: usize, n: usize)
     requires by_index { (k : ℕ) → k < n → get_or row.now (at + k) 0 < 16 }
     ensures { Written bytes.old from n (λ c. get_or row.now (at + c) 0) bytes.new }
 {
-    let mut e = 0;
-    while e < n {
+    for e in 0..n {
         packing::put(bytes, from + e, row[at + e]);
-        e += 1;
     }
 }
 
@@ -85,9 +77,5 @@ pub fn put_row(bytes: &mut [u8], from: usize, row: &[u8], at: usize, n: usize)
 pub fn clear(s: &mut [u8])
     ensures { s.new ≡ zeros (length s.old) }
 {
-    let mut k = 0;
-    while k < s.len() {
-        s[k] = 0;
-        k += 1;
-    }
+    s.fill(0);
 }

@@ -4,8 +4,7 @@ use Rattle.std.specs.Prelude.{◌≡◌, List, [], ℕ, ◌-◌, ◌≤◌, eqb,
 use Rattle.std.proofs.Common.{sym, arith, length-drop, take_all, eq-eqb, ne_eqb}
 use Rattle.std.proofs.Math.Seq.{drop-length}
 use Rattle.ground.specs.Pick.{pick}
-use Rattle.ground.specs.Answers.{first, answer_of}
-use Rattle.ground.specs.declared.Answer.{Answer}
+use Rattle.ground.specs.Answers.{Answer, first, number_of}
 use Rattle.sets.specs.declared.Set.{Set}
 use Rattle.sets.specs.Sets.{salt_bytes, signature_bytes}
 use Rattle.refusals.specs.Fits.{salt-fits}
@@ -23,9 +22,9 @@ salt_start set signature = pick (eqb (salt_refusal set signature) 0) (length sig
 unfoldable pub salt_of : Set → List ℕ → List ℕ
 salt_of set signature = drop (salt_start set signature) signature
 
--- What the salt's status promises: it is that of the first refusal.
+-- What the salt's status promises: its number is that of the first refusal.
 abbrev pub SaltStatus : (set : Set) (signature : List ℕ) (r : Answer) → Type 0
-SaltStatus set signature r = r ≡ answer_of (salt_refusal set signature)
+SaltStatus set signature r = number_of r ≡ salt_refusal set signature
 
 -- where set or length is refused the part is empty
 pub salt-empty : (set : Set) (signature : List ℕ) → (salt_refusal set signature ≡ 0 → ⊥) → salt_of set signature ≡ []

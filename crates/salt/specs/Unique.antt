@@ -2,8 +2,8 @@
 -- Rests on ground's `unique-equation`.
 use Rattle.std.specs.Prelude.{◌≡◌, List, ℕ, ◌+◌}
 use Rattle.ground.specs.Outcome.{unique-equation}
-use Rattle.ground.specs.Answers.{answer_of}
-use Rattle.ground.specs.declared.Answer.{Answer}
+use Rattle.ground.specs.Answers.{Answer, number_of}
+use Rattle.ground.specs.AnswerLaws.{unique-answer}
 use Rattle.sets.specs.declared.Set.{Set}
 use Rattle.salt.specs.Salt.{salt_refusal, salt_start, salt_of}
 
@@ -11,5 +11,5 @@ pub unique-salt : (set : Set) (signature : List ℕ) (at : ℕ) {r r' : List ℕ
     → r' ≡ salt_of set signature → p' ≡ at + salt_start set signature → (r ≡ r') × (p ≡ p')
 unique-salt set signature at a b c d = (unique-equation a c, unique-equation b d)
 
-pub unique-salt-status : (set : Set) (signature : List ℕ) {r r' : Answer} → r ≡ answer_of (salt_refusal set signature) → r' ≡ answer_of (salt_refusal set signature) → r ≡ r'
-unique-salt-status set signature = unique-equation
+pub unique-salt-status : (set : Set) (signature : List ℕ) {r r' : Answer} → number_of r ≡ salt_refusal set signature → number_of r' ≡ salt_refusal set signature → r ≡ r'
+unique-salt-status set signature = unique-answer

@@ -1,7 +1,7 @@
 -- The first pass of salvage as the code goes: the faults of the blocks, one after the other into the list.
 -- Rests on books' Salvage and on ground's Paste.
-use Rattle.std.specs.Prelude.{◌≡◌, refl, Bool, true, false, List, [], ◌∷◌, ℕ, zero, suc, ◌+◌, ◌-◌, ◌*◌, ◌/◌, ◌<◌, ◌≤◌, eqb, length, get_or, drop, set}
-use Rattle.std.proofs.Common.{sym, ap, ◌∙◌, not-suc-le-zero, arith, drop-drop}
+use Rattle.std.specs.Prelude.{◌≡◌, refl, Bool, true, false, List, [], ◌∷◌, ℕ, zero, suc, ◌+◌, ◌-◌, ◌*◌, ◌/◌, ◌<◌, ◌≤◌, eqb, length, get_or, drop, set, ◌≢◌}
+use Rattle.std.proofs.Common.{sym, ap, ◌∙◌, not-suc-le-zero, arith, drop-drop, ne_eqb}
 use Rattle.ground.specs.Pick.{pick}
 use Rattle.ground.specs.Answers.{first}
 use Rattle.ground.specs.Paste.{Pasted, length-pasted, pasted-none, pasted-then, pasted-all, pasted-one}
@@ -59,6 +59,13 @@ faults-step n b before s l =
     let more : n - b ≡ suc (n - (b + 1)) = omega arith in
     let at : 512 * b + 512 ≡ 512 * (b + 1) = omega arith in
     rw (more, drop-drop 512 (512 * b) s, at)
+
+-- the head to judge the next block against: a good block's own, else the one before it
+pub next-good : {f : ℕ} {h next : Head} (before : Head) → f ≡ 0 → next ≡ h → next ≡ pick (eqb f 0) h before
+next-good before e is = is ∙ sym (rw e)
+
+pub next-bad : {f : ℕ} {before next : Head} (h : Head) → (f ≢ 0) → next ≡ before → next ≡ pick (eqb f 0) h before
+next-bad h e is = is ∙ sym (rw (ne_eqb _ 0 e))
 
 pub judges-next : {s x l₀ l : List ℕ} {n b f : ℕ} {before h next : Head} → Judges s l₀ n b before l → b < n → b < length l₀ → IsBlock s b x → f ≡ fault_of (b + 1) before x
     → h ≡ head_of x → next ≡ pick (eqb f 0) h before → Judges s l₀ n (b + 1) next (set l b f)

@@ -1,7 +1,9 @@
 -- The third pass: the list of faults becomes the list of what became of each block.
 -- Rests on Marking and on ground's Segment.
-use Rattle.std.specs.Prelude.{◌≡◌, refl, Bool, List, ℕ, zero, suc, ◌+◌, ◌*◌, ◌/◌, ◌<◌, ◌≤◌, eqb, length, get_or, drop, set}
-use Rattle.std.proofs.Common.{sym, ap, ◌∙◌, not-suc-le-zero, zero-add, arith, drop-drop, ext_get_or}
+use Rattle.std.specs.Prelude.{◌≡◌, refl, Bool, List, ℕ, zero, suc, ◌+◌, ◌*◌, ◌/◌, ◌<◌, ◌≤◌, eqb, length, get_or, drop, set, ◌≢◌}
+use Rattle.std.proofs.Common.{sym, ap, subst, ne_eqb, ◌∙◌, not-suc-le-zero, zero-add, arith, drop-drop, ext_get_or}
+use Rattle.std.proofs.Math.Decide.{ℕ_discrete}
+use Rattle.std.proofs.lemmas.List.{set-get_or}
 use Rattle.ground.specs.Pick.{pick}
 use Rattle.ground.specs.Segment.{Segment, segment-none, fill-next}
 use Rattle.blocks.specs.declared.Head.{Head}
@@ -40,6 +42,21 @@ listing-next {s} {l₀} {l} {m} {x} {n} {b} {v} {y} {h} g below en j sp i hx ev 
     let y-is : y ≡ get_or (listed (spoils s) (blocks_of s)) b 0
     = ey ∙ rw (sp.at h.exercise, f-is, h-is) (sym (listed_at (spoils s) (length s / 512) 1 start s b (omega arith))) in
     record { upto = omega arith; so_far = fill-next g.so_far (omega (arith, ap length j.holds, length-faults-of s)) y y-is }
+
+-- a good block of a spoiled exercise is listed 44, and any other keeps its number
+pub listing-spoilt : {s l₀ l m x : List ℕ} {n b : ℕ} {h : Head} → Listing s l₀ n b l → b < n → n ≡ length s / 512 → Judged s l₀ → Spoilt s m → IsBlock s b x → h ≡ head_of x
+    → get_or l b 0 ≡ 0 → get_or m h.exercise 0 ≡ 1 → Listing s l₀ n (b + 1) (set l b 44)
+listing-spoilt g below en j sp i hx v k = listing-next g below en j sp i hx refl (sym (rw (v, k)))
+
+pub listing-stays : {s l₀ l m x : List ℕ} {n b : ℕ} {h : Head} → Listing s l₀ n b l → b < n → n ≡ length s / 512 → Judged s l₀ → Spoilt s m → IsBlock s b x → h ≡ head_of x
+    → (get_or l b 0 ≡ 0 → get_or m h.exercise 0 ≢ 1) → Listing s l₀ n (b + 1) l
+listing-stays {s} {l₀} {l} {m} {n = n} {b = b} {h = h} g below en j sp i hx other =
+    let same : get_or l b 0 ≡ pick (eqb (get_or l b 0) 0) (pick (eqb (get_or m h.exercise 0) 1) 44 0) (get_or l b 0)
+    = elim (ℕ_discrete (get_or l b 0) 0) [
+      | yes v ↦ v ∙ sym (rw (v, ne_eqb _ 1 (other v)))
+      | no v ↦ sym (rw (ne_eqb _ 0 v))
+    ] in
+    subst (λ y. Listing s l₀ n (b + 1) y) (set-get_or l b 0) (listing-next g below en j sp i hx refl same)
 
 pub listing-end : {s l₀ l : List ℕ} {n b : ℕ} → Listing s l₀ n b l → n ≤ b → n ≡ length s / 512 → Judged s l₀ → l ≡ numbers_of s
 listing-end {s} {l₀} {l} {n} {b} g done en j =

@@ -1,6 +1,6 @@
 -- What holds of a salvage that answered a count, by its contract alone: the reader takes what was written; its k-th block is the k-th old block that is listed 0; and where
 -- each block of a sound book has at most one word altered, its payload is the original's. Rests on Salvages and on books' Kept.
-use Rattle.std.specs.Prelude.{◌≡◌, List, ◌++◌, ℕ, ◌+◌, ◌*◌, ◌/◌, ◌<◌, length, get_or, take, drop}
+use Rattle.std.specs.Prelude.{◌≡◌, Ok, List, ◌++◌, ℕ, ◌+◌, ◌*◌, ◌/◌, ◌<◌, length, get_or, take, drop}
 use Rattle.std.proofs.Common.{sym, ◌∙◌, arith, length-drop, take_at}
 use Rattle.std.proofs.Math.Path.{ap}
 use Rattle.std.proofs.Math.Decide.{ℕ_discrete}
@@ -12,16 +12,15 @@ use Rattle.books.specs.Book.{read_number}
 use Rattle.books.specs.Going.{length-written-small}
 use Rattle.books.specs.Salvage.{kept_parts, salvaged, salvaged-read, Worn}
 use Rattle.books.specs.Kept.{zeros, kept_small, Kth, kth-kept, kept_payload}
-use Rattle.salvage.specs.declared.Salvaged.TheVariants.{Kept}
 use Rattle.salvage.specs.Salvages.{salvage_rules, Salvages, salvage-fits}
 
-module _ {s out list : List ℕ} {n : ℕ} {out' list' : List ℕ} (w : Salvages s out list (Kept n) out' list') where
+module _ {s out list : List ℕ} {n : ℕ} {out' list' : List ℕ} (w : Salvages s out list (Ok n) out' list') where
   -- a count is answered only where nothing is refused
   not-refused : first (salvage_rules s out list) ≡ 0
   not-refused =
       elim (ℕ_discrete (first (salvage_rules s out list)) 0) [
         | yes z ↦ z
-        | no z ↦ absurd (let r = (w.refused z).0 in let bad : ◌≡◌ {A = ℕ} 0 1 = cc in omega arith)
+        | no z ↦ absurd (z (sym (w.refused z).0))
       ]
 
   count-is : n ≡ length (kept_parts s)

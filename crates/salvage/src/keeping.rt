@@ -25,10 +25,8 @@ pub fn keep(output: &mut [u8], book: &[u8], list: &[u8]) -> usize
 {
     let n = book.len() / 512;
     let mut k = 0;
-    let mut b = 0;
-    while b < n {
+    for b in 0..n {
         k = keep_block(output, k, book, b, list[b]);
-        b += 1;
     }
     k
 }

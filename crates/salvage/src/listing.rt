@@ -1,20 +1,8 @@
 // Third pass: a good block of a spoiled exercise is listed 44.
-ghost use Rattle.std.specs.Prelude.{◌≡◌, eqb};
-ghost use Rattle.ground.specs.Pick.{pick};
+ghost use Rattle.std.specs.Prelude.{◌≡◌};
 ghost use Rattle.books.specs.Salvage.{numbers_of};
 ghost use Rattle.salvage.specs.Judging.{Judged};
 ghost use Rattle.salvage.specs.Marking.{Spoilt};
-
-// 44 for a good block whose exercise is marked, else its fault.
-fn number_in(fault: u8, mark: u8) -> u8
-    ensures { result ≡ pick (eqb fault 0) (pick (eqb mark 1) 44 0) fault }
-{
-    if fault == 0 {
-        if mark == 1 { 44 } else { 0 }
-    } else {
-        fault
-    }
-}
 
 // The list of faults becomes the list of what became of each block.
 fn list_spoiled(list: &mut [u8], book: &[u8], marks: &[u8])
@@ -23,12 +11,11 @@ fn list_spoiled(list: &mut [u8], book: &[u8], marks: &[u8])
     ensures { list.new ≡ numbers_of book.now }
 {
     let n = book.len() / 512;
-    let mut b = 0;
-    while b < n {
+    for b in 0..n {
         let head = blocks::head_of(blocks::block_at(book, b));
-        let e = head.exercise as usize;
-        list[b] = number_in(list[b], marks[e]);
-        b += 1;
+        if list[b] == 0 && marks[usize::from(head.exercise)] == 1 {
+            list[b] = 44;
+        }
     }
 }
 

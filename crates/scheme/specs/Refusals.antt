@@ -2,13 +2,14 @@
 -- can receive"). Rests on refusals' Rules and on Maps.
 use Rattle.std.specs.Prelude.{List, [], ◌∷◌, ◌++◌, ℕ, length}
 use Rattle.ground.specs.Answers.{Rule, unless}
+use Rattle.ground.specs.declared.Refusal.TheVariants.{NotInvertible}
 use Rattle.sets.specs.declared.Set.{Set}
 use Rattle.refusals.specs.Rules.{keygen_rules, sign_rules, verdict_rules}
 use Rattle.scheme.specs.Maps.{all_invertible}
 
 -- 21: an A or B cannot be made invertible
 abbrev pub invertible_rule : Set → (abq : List ℕ) → Rule
-invertible_rule set abq = unless 21 (all_invertible set abq)
+invertible_rule set abq = unless NotInvertible (all_invertible set abq)
 
 module _ (set : Set) where
   -- key generation: 10, 11, 13, 20

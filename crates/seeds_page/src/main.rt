@@ -35,6 +35,7 @@ fn abq(rt: &impl Print, asked: &str, set: Set, seed: &[u8], out: &mut [u8]) -> i
     show(rt, asked, out)
 }
 
+// The other stream of the page, like public: no plainer.
 fn private(rt: &impl Print, seed: &[u8], out: &mut [u8]) -> io::Result<()> {
     seeds::private_stream(seed, out);
     show(rt, "private stream, 150 bytes", out)

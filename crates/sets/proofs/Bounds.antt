@@ -2,8 +2,10 @@
 use Rattle.std.specs.Prelude.{◌≡◌, refl, true, ◌*◌, ◌≤◌}
 use Rattle.std.proofs.Common.{mul-le-mul, mul-le-mul_left, arith}
 use Rattle.sets.specs.declared.Set.{Set}
+use Rattle.sets.specs.declared.within.AllowedSet.{AllowedSet}
 use Rattle.sets.specs.Sets.{allowed_set, least_l, most_row, terms, all_terms, unknowns, public_count, abq_count, private_count, vinegar_count, target_count, key_count, signature_count, work_bytes}
 use Rattle.sets.specs.Bounds.{Limits, Products, Counts, Sizes, Bounds, limits}
+use Rattle.sets.specs.Numbers.{numbers}
 
 products : {s : Set} → Limits s → Products s
 products {s} h =
@@ -82,3 +84,7 @@ bounds-from {s} h = let p = products h in record { limits = h; products = p; cou
 
 pub bounds : (s : Set) → allowed_set s ≡ true → Bounds s
 bounds s e = bounds-from (limits s e)
+
+-- what the type's fact gives
+pub bounds_of : (a : AllowedSet) → Bounds (numbers a)
+bounds_of a = bounds (numbers a) a.within

@@ -1,9 +1,15 @@
 -- No second answer meets a public function's contract: each contract is an equation with a definition.
 -- Rests on Sets, and on Outcome of the crate ground.
-use Rattle.std.specs.Prelude.{◌≡◌, Bool, ℕ}
+use Rattle.std.specs.Prelude.{◌≡◌, Bool, true, false, ℕ, Result, Ok, Err, IfOk, IfErr}
+use Rattle.std.proofs.Common.{ap, sym, ◌∙◌, subst, true≢false}
+use Rattle.std.proofs.Math.Bool.{Bool-set}
 use Rattle.ground.specs.Pick.{pick}
 use Rattle.ground.specs.Outcome.{unique-equation}
+use Rattle.ground.specs.declared.Refusal.{Refusal}
+use Rattle.ground.specs.declared.Refusal.TheVariants.{SetNotAllowed}
 use Rattle.sets.specs.declared.Set.{Set}
+use Rattle.sets.specs.declared.within.AllowedSet.{AllowedSet}
+use Rattle.sets.specs.Numbers.{numbers}
 use Rattle.sets.specs.Sets.{
   allowed_set,
   public_bytes,
@@ -45,3 +51,25 @@ module _ (s : Set) {r r' : ℕ} where
 
   pub unique-work-bytes : r ≡ pick (allowed_set s) (work_bytes s) 0 → r' ≡ pick (allowed_set s) (work_bytes s) 0 → r ≡ r'
   unique-work-bytes = unique-equation
+
+-- an allowed set: its numbers decide it, since the fact beside them has one proof
+
+-- an allowed set of a set
+abbrev made_of : (s : Set) → allowed_set s ≡ true → AllowedSet
+made_of s w = record { v = s.v; o = s.o; l = s.l; within = w }
+
+one-proof : (s : Set) (w w' : allowed_set s ≡ true) → w ≡ w'
+one-proof s w w' = Bool-set _ _ w w'
+
+same-numbers : (a b : AllowedSet) → numbers a ≡ numbers b → a ≡ b
+same-numbers a b e =
+    subst (λ s. (w : allowed_set s ≡ true) → a ≡ made_of s w) e (λ w. ap (made_of (numbers a)) (one-proof (numbers a) a.within w)) b.within
+
+pub unique-allowed-set : (set : Set) {r r' : Result AllowedSet Refusal}
+    → IfOk r (λ a. numbers a ≡ set) → IfErr r (λ e. (e ≡ SetNotAllowed) × (allowed_set set ≡ false))
+    → IfOk r' (λ a. numbers a ≡ set) → IfErr r' (λ e. (e ≡ SetNotAllowed) × (allowed_set set ≡ false))
+    → r ≡ r'
+unique-allowed-set set {r = Ok a} {r' = Ok b} m _ m' _ = ap Ok (same-numbers a b (m ∙ sym m'))
+unique-allowed-set set {r = Ok a} {r' = Err e} m _ _ n' = absurd (true≢false (sym (rw m at a.within) ∙ n'.1))
+unique-allowed-set set {r = Err e} {r' = Ok b} _ n m' _ = absurd (true≢false (sym (rw m' at b.within) ∙ n.1))
+unique-allowed-set set {r = Err e} {r' = Err e'} _ n _ n' = ap Err (n.0 ∙ sym n'.0)

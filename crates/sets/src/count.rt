@@ -1,80 +1,71 @@
-// How many elements each stream holds. These are for callers that know the set to be allowed, so that no product wraps.
+// How many elements each stream holds. The set is allowed, so no product wraps.
+// One function for each line of page 01's table: alike in form, and no plainer.
 ghost use Rattle.std.specs.Prelude.{◌≡◌};
 ghost use Rattle.sets.specs.Sets.{terms as Sets·terms, all_terms, unknowns as Sets·unknowns};
 ghost use Rattle.sets.specs.Sets.{public_count, abq_count, private_count, vinegar_count, target_count, key_count, signature_count};
-ghost use Rattle.sets.specs.Bounds.{Bounds};
+ghost use Rattle.sets.specs.Numbers.{numbers};
 
-use crate::Set;
+use crate::AllowedSet;
 
 // The terms of an equation: alpha runs below this.
-pub fn terms(s: Set) -> usize
-    requires { Bounds s }
-    ensures { result ≡ Sets·terms s }
+pub fn terms(s: AllowedSet) -> usize
+    ensures { result ≡ Sets·terms (numbers s) }
 {
     s.l * s.l + s.l
 }
 
 // The terms of all equations: as many A stand in the ABQ stream.
-pub fn all_terms(s: Set) -> usize
-    requires { Bounds s }
-    ensures { result ≡ all_terms s }
+pub fn all_terms(s: AllowedSet) -> usize
+    ensures { result ≡ all_terms (numbers s) }
 {
     s.o * terms(s)
 }
 
 // The unknowns of a signing's linear system, N.
-pub fn unknowns(s: Set) -> usize
-    requires { Bounds s }
-    ensures { result ≡ Sets·unknowns s }
+pub fn unknowns(s: AllowedSet) -> usize
+    ensures { result ≡ Sets·unknowns (numbers s) }
 {
     s.o * (s.l * s.l)
 }
 
-pub fn public_count(s: Set) -> usize
-    requires { Bounds s }
-    ensures { result ≡ public_count s }
+pub fn public_count(s: AllowedSet) -> usize
+    ensures { result ≡ public_count (numbers s) }
 {
     s.o * (s.v * s.v + 2 * s.v * s.o) * (s.l * s.l)
 }
 
-pub fn abq_count(s: Set) -> usize
-    requires { Bounds s }
-    ensures { result ≡ abq_count s }
+pub fn abq_count(s: AllowedSet) -> usize
+    ensures { result ≡ abq_count (numbers s) }
 {
     all_terms(s) * (2 * (s.l * s.l) + 2 * s.l)
 }
 
-pub fn private_count(s: Set) -> usize
-    requires { Bounds s }
-    ensures { result ≡ private_count s }
+pub fn private_count(s: AllowedSet) -> usize
+    ensures { result ≡ private_count (numbers s) }
 {
     s.v * s.o * s.l
 }
 
-pub fn vinegar_count(s: Set) -> usize
-    requires { Bounds s }
-    ensures { result ≡ vinegar_count s }
+pub fn vinegar_count(s: AllowedSet) -> usize
+    ensures { result ≡ vinegar_count (numbers s) }
 {
     s.v * (s.l * s.l)
 }
 
-pub fn target_count(s: Set) -> usize
-    requires { Bounds s }
-    ensures { result ≡ target_count s }
+pub fn target_count(s: AllowedSet) -> usize
+    ensures { result ≡ target_count (numbers s) }
 {
     s.o * (s.l * s.l)
 }
 
-pub fn key_count(s: Set) -> usize
-    requires { Bounds s }
-    ensures { result ≡ key_count s }
+pub fn key_count(s: AllowedSet) -> usize
+    ensures { result ≡ key_count (numbers s) }
 {
     s.o * s.o * s.o * (s.l * s.l)
 }
 
-pub fn signature_count(s: Set) -> usize
-    requires { Bounds s }
-    ensures { result ≡ signature_count s }
+pub fn signature_count(s: AllowedSet) -> usize
+    ensures { result ≡ signature_count (numbers s) }
 {
     (s.v + s.o) * (s.l * s.l)
 }

@@ -1,13 +1,14 @@
 // Parameter sets, and the exact length of every stream and buffer.
-// `allowed` decides page 01's limits; `count` has the numbers of elements, `length` a function for each length, `rooms` the sizes of local buffers.
+// `allowed` decides page 01's limits, and `AllowedSet` is a set that it lets through; `count` has the numbers of elements, `length` a function for each length, `rooms` the sizes of local buffers.
 #![tactic(auto)]
 
 mod count;
 mod length;
 mod rooms;
+mod within;
 
 ghost use Rattle.std.specs.Prelude.{◌≡◌};
-ghost use Rattle.sets.specs.Sets.{allowed_set, from_to};
+ghost use Rattle.sets.specs.Sets.{allowed_set};
 
 pub use count::{
     abq_count, all_terms, key_count, private_count, public_count, signature_count, target_count,
@@ -21,6 +22,7 @@ pub use rooms::{
     FLAT_ROOM, KEY_ROOM, LIST_POWERS_ROOM, LIST_ROOM, LIST_ROWS, POWER_SUMS_ROOM, POWERS_ROOM,
     PRIVATE_ROOM, SIDE_SUMS_ROOM, VINEGAR_POWERS_ROOM, VINEGAR_ROOM, VINEGAR_ROWS,
 };
+pub use within::AllowedSet;
 
 // The limits, which stand here and nowhere else in the code.
 pub const MOST_V: usize = 75;
@@ -44,19 +46,12 @@ pub struct Set {
 }
 
 // Whether the set is within page 01's limits. Any numbers are answered: a product is formed only of small ones.
+#[tactic(auto, unfolding(crate::specs::Sets::allowed_set))]
 pub fn allowed(s: Set) -> bool
     ensures { result ≡ allowed_set s }
 {
-    if within(1, MOST_V, s.v) && within(1, MOST_O, s.o) && within(LEAST_L, MOST_L, s.l) {
-        s.o * (s.l * s.l) <= MOST_ROW
-    } else {
-        false
-    }
-}
-
-// Whether x is from least to most.
-fn within(least: usize, most: usize, x: usize) -> bool
-    ensures { result ≡ from_to least most x }
-{
-    least <= x && x <= most
+    (1..=MOST_V).contains(&s.v)
+        && (1..=MOST_O).contains(&s.o)
+        && (LEAST_L..=MOST_L).contains(&s.l)
+        && s.o * (s.l * s.l) <= MOST_ROW
 }

@@ -5,7 +5,7 @@
 use sets::Set;
 use std::io;
 
-const LARGEST: usize = 18446744073709551615;
+const LARGEST: usize = usize::MAX;
 
 fn main(rt: HostRuntime) -> io::Result<()> {
     println!(rt; "| set | public | ABQ | private | vinegar | target | key | signature | work |")?;
@@ -60,7 +60,7 @@ fn refusal(rt: &impl Print, s: Set) -> io::Result<()> {
         sets::private_bytes(s),
         sets::key_bytes(s),
     );
-    cell(rt, answer as usize)?;
+    cell(rt, ground::number(answer) as usize)?;
     println!(rt)
 }
 

@@ -1,4 +1,5 @@
 pub mod Sponge
+pub mod LaneBytes
 pub mod Padding
 pub mod Feed
 pub mod FeedLaws

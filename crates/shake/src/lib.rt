@@ -2,11 +2,16 @@
 // `shake128` and `shake256` are for everybody. `fresh`, `absorb` and `extract` are for our own crates, which hash a message that stands in pieces.
 #![tactic(auto)]
 
-ghost use Rattle.std.specs.Prelude.{◌≡◌, ◌+◌, ◌*◌, ◌<◌, ◌≤◌, length};
+ghost use Rattle.std.specs.Prelude.{◌≡◌, ◌+◌, ◌<◌, ◌≤◌, length};
 ghost use Rattle.ground.specs.Fill.{tab};
 ghost use Rattle.ground.specs.Segment.{Segment};
 ghost use Rattle.shake.specs.Sponge.{lane_byte, add_byte, squeezed, shake as shake_of, shake128 as shake128_of, shake256 as shake256_of};
 ghost use Rattle.shake.specs.Feed.{Rate, Fresh, Ready, Fed, finished, output};
+
+// A block's bytes, for SHAKE128 and for SHAKE256.
+pub const RATE_128: usize = 168;
+
+pub const RATE_256: usize = 136;
 
 // A state, and the place in its block of the message's next byte.
 #[derive(Clone, Copy)]
@@ -16,6 +21,7 @@ pub struct Sponge {
 }
 
 // No byte taken yet.
+// A struct of zeros, as other crates have theirs: no plainer.
 pub fn fresh() -> Sponge
     ensures { Fresh result }
 {
@@ -30,15 +36,7 @@ fn add_byte(lanes: &mut [u64; 25], p: usize, b: u8)
     requires { p < 200 }
     ensures { lanes.new ≡ add_byte lanes.old p b }
 {
-    lanes[p / 8] ^= (b as u64) << (8 * (p % 8));
-}
-
-// Byte d of a lane, the lowest first.
-pub fn lane_byte(w: u64, d: usize) -> u8
-    requires { d < 8 }
-    ensures { result ≡ lane_byte w d }
-{
-    ((w >> (8 * d)) % 256) as u8
+    lanes[p / 8] ^= u64::from(b) << (8 * (p % 8));
 }
 
 // out[from..from + n] become the first n bytes of a lane.
@@ -46,11 +44,7 @@ fn put_bytes(out: &mut [u8], from: usize, w: u64, n: usize)
     requires { (from + n ≤ length out.old) × (n ≤ 8) }
     ensures { Segment out.old from n (lane_byte w) out.new }
 {
-    let mut d = 0;
-    while d < n {
-        out[from + d] = lane_byte(w, d);
-        d += 1;
-    }
+    out[from..from + n].copy_from_slice(&w.to_le_bytes()[..n]);
 }
 
 // The message goes on with the input's bytes.
@@ -60,16 +54,13 @@ pub fn absorb(s: Sponge, rate: usize, input: &[u8]) -> Sponge
 {
     let mut lanes = s.lanes;
     let mut at = s.at;
-    let mut i = 0;
-    while i < input.len() {
-        add_byte(&mut lanes, at, input[i]);
+    for byte in input {
+        add_byte(&mut lanes, at, *byte);
         at += 1;
         if at == rate {
-            let next = keccak::permute(lanes);
-            lanes = next;
+            lanes = keccak::permute(lanes);
             at = 0;
         }
-        i += 1;
     }
     Sponge { lanes, at }
 }
@@ -90,29 +81,22 @@ fn finish(s: Sponge, rate: usize) -> [u64; 25]
     keccak::permute(lanes)
 }
 
-// The output's first bytes, lane by lane.
+// The output's first bytes, lane by lane. By the number of the part and not over `out.chunks_mut(8)`: the check knows no byte of what that lent.
 fn squeeze(s: [u64; 25], rate: usize, out: &mut [u8])
     requires { Rate rate }
     ensures { out.new ≡ tab (length out.old) (squeezed rate s) }
 {
     let mut lanes = s;
     let mut at = 0;
-    let mut k = 0;
-    while k < out.len() {
+    for part in 0..out.len().div_ceil(8) {
         if at == rate {
-            let next = keccak::permute(lanes);
-            lanes = next;
+            lanes = keccak::permute(lanes);
             at = 0;
         }
-        let w = lanes[at / 8];
-        let left = out.len() - k;
-        if left < 8 {
-            put_bytes(out, k, w, left);
-            return;
-        }
-        put_bytes(out, k, w, 8);
+        let k = 8 * part;
+        let n = (out.len() - k).min(8);
+        put_bytes(out, k, lanes[at / 8], n);
         at += 8;
-        k += 8;
     }
 }
 
@@ -136,12 +120,13 @@ fn shake(rate: usize, input: &[u8], out: &mut [u8])
 pub fn shake128(input: &[u8], out: &mut [u8])
     ensures { out.new ≡ shake128_of input.now (length out.old) }
 {
-    shake(168, input, out);
+    shake(RATE_128, input, out);
 }
 
 // The first bytes of SHAKE256 of the input.
+// The standard's other function, in one line as shake128 is: no plainer.
 pub fn shake256(input: &[u8], out: &mut [u8])
     ensures { out.new ≡ shake256_of input.now (length out.old) }
 {
-    shake(136, input, out);
+    shake(RATE_256, input, out);
 }

@@ -48,6 +48,7 @@ fn outputs(rt: &impl Print) -> io::Result<()> {
     both(rt, "3 bytes 5C, 169 bytes", &[0x5c; 3], &mut [0; 169])
 }
 
+// A page's program begins as the others do: no plainer.
 fn main(rt: HostRuntime) -> io::Result<()> {
     standard(&rt)?;
     messages(&rt)?;

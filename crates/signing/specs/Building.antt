@@ -1,6 +1,6 @@
 -- What the functions of src/solving.rt cite: the vinegar's table, the system that was built as page 01's, and the area that elimination asks for.
 -- Rests on Solving, and on system's law that a built system is the scheme's.
-use Rattle.std.specs.Prelude.{◌≡◌, List, ℕ, ◌+◌, ◌*◌, ◌<◌, ◌≤◌, length}
+use Rattle.std.specs.Prelude.{◌≡◌, Result, List, ℕ, ◌+◌, ◌*◌, ◌<◌, ◌≤◌, length}
 use Rattle.std.proofs.Common.{sym, subst, mul-le-mul_right, arith}
 use Rattle.std.proofs.Math.Decide.{dec_lt}
 use Rattle.field.specs.Laws.{add-lt}
@@ -16,7 +16,7 @@ use Rattle.scheme.specs.Coefficients.{coefficient_at-lt}
 use Rattle.tables.specs.Table.{Holds, Filled, holds_same}
 use Rattle.tables.specs.Unpacked.{Unpacked, list_of, unpacked-list}
 use Rattle.linear.specs.System.{at, Area, Eliminated}
-use Rattle.linear.specs.declared.Outcome.{Outcome}
+use Rattle.linear.specs.declared.Singular.{Singular}
 use Rattle.system.specs.System.{SystemHolds}
 use Rattle.signing.specs.Solving.{Built, Solving, solving}
 
@@ -56,6 +56,6 @@ built-area {set} {public} {abq} {private} {vinegar} {target} {g} {n} b e fits h 
 })
 
 -- what elimination found, with the number of unknowns that was computed
-pub solving-from : {set : Set} {public abq private vinegar target g h : List ℕ} {n : ℕ} {r : Outcome} → 0 < set.l → n ≡ unknowns set
+pub solving-from : {set : Set} {public abq private vinegar target g h : List ℕ} {n : ℕ} {r : Result Unit Singular} → 0 < set.l → n ≡ unknowns set
     → Built set public abq private vinegar target g → Eliminated g n r h → Solving set public abq private vinegar target r h
 solving-from {g = g} {h = h} {r = r} p e b f = solving p b (subst (λ k. Eliminated g k r h) e f)

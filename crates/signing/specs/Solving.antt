@@ -1,6 +1,6 @@
 -- The linear system and its elimination, in page 01's words: what elimination finds of the built system is the one oil choice that solves, or the redo.
 -- Rests on linear's Solution and Kernel and on scheme's rows of coefficients.
-use Rattle.std.specs.Prelude.{◌≡◌, List, ℕ, ◌*◌, ◌/◌, ◌%◌, ◌<◌}
+use Rattle.std.specs.Prelude.{◌≡◌, Result, Ok, Err, List, ℕ, ◌*◌, ◌/◌, ◌%◌, ◌<◌}
 use Rattle.std.proofs.Math.Path.{sym, ap}
 use Rattle.std.proofs.Common.{◌∙◌}
 use Rattle.algebra.specs.Sum.{sum-cong}
@@ -14,9 +14,8 @@ use Rattle.scheme.specs.Maps.{vinegar_part}
 use Rattle.scheme.specs.Oil.{entry_at, oil_from, oil-from, Oil, Solves, OnlyZero}
 use Rattle.scheme.specs.Coefficients.{coefficient_at, row_times}
 use Rattle.scheme.proofs.Coefficients.{only_zero-rows, redo-rows, solution-rows}
-use Rattle.linear.specs.System.{at, apply, Solution, Kernel, Eliminated}
-use Rattle.linear.specs.declared.Outcome.{Outcome}
-use Rattle.linear.specs.declared.Outcome.TheVariants.{Solved, Singular}
+use Rattle.linear.specs.System.{at, apply, Solution, Kernel, singular, Eliminated}
+use Rattle.linear.specs.declared.Singular.{Singular}
 use Rattle.signing.specs.Signs.{Again, Emitted, signature_with}
 use Rattle.signing.specs.Signature.{signature-holds}
 
@@ -36,9 +35,9 @@ module _ (set : Set) (public abq private vinegar target : List ℕ) where
     pub only_zero : OnlyZero set public abq private (vinegar_of set vinegar)
 
   -- What solving promises of its answer and of the area that it leaves, a solution in column N.
-  pub record Solving (r : Outcome) (h : List ℕ) : Type 0 where
-    pub solved : r ≡ Solved → FoundOil (λ e. at h (unknowns set) e (unknowns set))
-    pub singular : r ≡ Singular → Again set public abq private vinegar target
+  pub record Solving (r : Result Unit Singular) (h : List ℕ) : Type 0 where
+    pub solved : r ≡ Ok tt → FoundOil (λ e. at h (unknowns set) e (unknowns set))
+    pub singular : r ≡ Err singular → Again set public abq private vinegar target
 
 module _ {set : Set} {public abq private vinegar target : List ℕ} {g : List ℕ} (p : 0 < set.l) (b : Built set public abq private vinegar target g) where
   -- a row of the area applied to unknowns is the row of the linear part
@@ -60,7 +59,7 @@ module _ {set : Set} {public abq private vinegar target : List ℕ} {g : List �
       redo-rows set public abq private (vinegar_of set vinegar) p k.y k.small (λ y h. sym (built-row k.y y h) ∙ k.sent y h)
       (λ z. k.nonzero (z k.place k.inside))
 
-  pub solving : {r : Outcome} {h : List ℕ} → Eliminated g (unknowns set) r h → Solving set public abq private vinegar target r h
+  pub solving : {r : Result Unit Singular} {h : List ℕ} → Eliminated g (unknowns set) r h → Solving set public abq private vinegar target r h
   solving e = record { solved = λ q. found-oil (e.solved q); singular = λ q. found-again (e.singular q) }
 
 -- the oil that was found, written with the salt, is what signing promises to emit

@@ -1,9 +1,11 @@
 -- What follows from signing's promise alone: no second outcome meets it, redo is exact, and what is emitted is accepted under the generated key.
 -- Rests on Signature, and on scheme's `redo-exclusive`, `unique-oil` and `accepted-change`.
-use Rattle.std.specs.Prelude.{◌≡◌, true, ◌⊎◌, ◌↔◌, List, ℕ}
+use Rattle.std.specs.Prelude.{◌≡◌, Result, Ok, true, ◌⊎◌, ◌↔◌, List, ℕ}
 use Rattle.std.proofs.Common.{sym, ◌∙◌, inl, inr}
 use Rattle.std.proofs.Math.Decide.{ℕ_discrete}
 use Rattle.ground.specs.Answers.{first}
+use Rattle.ground.specs.AnswerLaws.{same-refusal}
+use Rattle.ground.specs.declared.Refusal.{Refusal}
 use Rattle.sets.specs.declared.Set.{Set}
 use Rattle.scheme.specs.Streams.{vinegar_of}
 use Rattle.scheme.specs.Maps.{central_map, key_of}
@@ -18,7 +20,7 @@ use Rattle.scheme.specs.Refusals.{sign_refusals}
 use Rattle.signing.specs.Signs.{number_of, Again, Emitted, Signs}
 use Rattle.signing.specs.Signature.{signature-cong}
 
-pub unique-number : (answer : Signing) {n n' : ℕ} → n ≡ number_of answer → n' ≡ number_of answer → n ≡ n'
+pub unique-number : (answer : Result Signing Refusal) {n n' : ℕ} → n ≡ number_of answer → n' ≡ number_of answer → n ≡ n'
 unique-number answer = unique-equation
 
 module _ {set : Set} {public abq private vinegar target salt : List ℕ} where
@@ -35,30 +37,30 @@ module _ {set : Set} {public abq private vinegar target salt : List ℕ} where
 
   module _ {work output : List ℕ} where
     -- Every signature that signing emits is accepted.
-    pub signed-accepted : {work' output' : List ℕ} → Signs set public abq private vinegar target salt work output Done work' output'
+    pub signed-accepted : {work' output' : List ℕ} → Signs set public abq private vinegar target salt work output (Ok Done) work' output'
         → accepted set public abq (key_of set public private) output' target ≡ true
     signed-accepted a = emitted-accepted (a.done (cc))
 
-    module _ {r : Signing} {work' output' : List ℕ} (a : Signs set public abq private vinegar target salt work output r work' output')
+    module _ {r : Result Signing Refusal} {work' output' : List ℕ} (a : Signs set public abq private vinegar target salt work output r work' output')
         (fits : first (sign_refusals set public abq private vinegar target salt work output) ≡ 0) where
       -- where nothing is refused, redo is answered exactly where some oil choice, not all zero, is sent to zero
-      pub redo-exactly : (r ≡ Redo) ↔ Again set public abq private vinegar target
+      pub redo-exactly : (r ≡ Ok Redo) ↔ Again set public abq private vinegar target
       redo-exactly = ((λ e. (a.redo e).0), (λ again. by (a.answered fits) again))
         where
-          by : (r ≡ Done) ⊎ (r ≡ Redo) → Again set public abq private vinegar target → r ≡ Redo
+          by : (r ≡ Ok Done) ⊎ (r ≡ Ok Redo) → Again set public abq private vinegar target → r ≡ Ok Redo
           by (inl e) again = absurd (redo-exclusive again (a.done e).only_zero)
           by (inr e) again = e
 
       -- and done exactly where only all-zero oil is
-      pub done-exactly : (r ≡ Done) ↔ OnlyZero set public abq private (vinegar_of set vinegar)
+      pub done-exactly : (r ≡ Ok Done) ↔ OnlyZero set public abq private (vinegar_of set vinegar)
       done-exactly = ((λ e. (a.done e).only_zero), (λ only. by (a.answered fits) only))
         where
-          by : (r ≡ Done) ⊎ (r ≡ Redo) → OnlyZero set public abq private (vinegar_of set vinegar) → r ≡ Done
+          by : (r ≡ Ok Done) ⊎ (r ≡ Ok Redo) → OnlyZero set public abq private (vinegar_of set vinegar) → r ≡ Ok Done
           by (inl e) only = e
           by (inr e) only = absurd (redo-exclusive (a.redo e).0 only)
 
     -- No second outcome meets the promise: the answer, the work area and the output are fixed by what went in.
-    pub unique-sign : {r r' : Signing} {w w' s s' : List ℕ} → Signs set public abq private vinegar target salt work output r w s
+    pub unique-sign : {r r' : Result Signing Refusal} {w w' s s' : List ℕ} → Signs set public abq private vinegar target salt work output r w s
         → Signs set public abq private vinegar target salt work output r' w' s' → (r ≡ r') × ((w ≡ w') × (s ≡ s'))
     unique-sign {r} {r'} {w} {w'} {s} {s'} a b =
         elim (ℕ_discrete (first (sign_refusals set public abq private vinegar target salt work output)) 0) [
@@ -66,10 +68,10 @@ module _ {set : Set} {public abq private vinegar target salt : List ℕ} where
           | no n ↦
               let p = a.refused n in
               let q = b.refused n in
-              (p.0 ∙ sym q.0, (p.1.0 ∙ sym q.1.0, p.1.1 ∙ sym q.1.1))
+              (same-refusal r r' (p.0 ∙ sym q.0) (λ z. n (sym p.0 ∙ z)), (p.1.0 ∙ sym q.1.0, p.1.1 ∙ sym q.1.1))
         ]
       where
-        by : first (sign_refusals set public abq private vinegar target salt work output) ≡ 0 → (r ≡ Done) ⊎ (r ≡ Redo) → (r' ≡ Done) ⊎ (r' ≡ Redo)
+        by : first (sign_refusals set public abq private vinegar target salt work output) ≡ 0 → (r ≡ Ok Done) ⊎ (r ≡ Ok Redo) → (r' ≡ Ok Done) ⊎ (r' ≡ Ok Redo)
             → (r ≡ r') × ((w ≡ w') × (s ≡ s'))
         by e (inl p) (inl q) = (p ∙ sym q, (a.wiped e ∙ sym (b.wiped e), unique-emitted (a.done p) (b.done q)))
         by e (inl p) (inr q) = absurd (redo-exclusive (b.redo q).0 (a.done p).only_zero)

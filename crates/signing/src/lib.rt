@@ -6,30 +6,30 @@ mod numbers;
 mod solving;
 mod writing;
 
-ghost use Rattle.std.specs.Prelude.{◌≡◌};
+ghost use Rattle.std.specs.Prelude.{◌≡◌, Ok};
 ghost use Rattle.ground.specs.Answers.{first};
 ghost use Rattle.scheme.specs.Refusals.{sign_refusals};
 ghost use Rattle.signing.specs.Signs.{Signs};
+ghost use Rattle.sets.specs.Numbers.{numbers};
 
-use ground::Answer;
-use linear::Outcome;
-pub use numbers::number;
-use sets::Set;
+use ground::Refusal;
+use linear::Singular;
+use sets::{AllowedSet, Set};
 use solving::solve;
 use writing::emit;
 
-// Done: the output holds the signature. Redo: some oil choice, not all zero, is sent to zero, and the host tries again with another vinegar.
-// Refused: page 01's number.
-#[derive(Clone, Copy)]
+// What a signing that is not refused comes to. Done: the output holds the signature. Redo: some oil choice, not all zero, is sent to zero, and the host tries
+// again with another vinegar.
+// A type of its own beside Verdict and Next: each has the page's names for its call.
+#[derive(Clone, Copy, Debug, PartialEq, Eq)]
 pub enum Signing {
     Done,
     Redo,
-    Refused(u32),
 }
 
 // Signing where nothing is refused.
 fn sign_lent(
-    set: Set,
+    set: AllowedSet,
     public: &[u8],
     abq: &[u8],
     private: &[u8],
@@ -39,18 +39,17 @@ fn sign_lent(
     work: &mut [u8],
     output: &mut [u8],
 ) -> Signing
-    requires { first (sign_refusals set public.now abq.now private.now vinegar.now target.now salt.now work.old output.old) ≡ 0 }
-    ensures { Signs set public.now abq.now private.now vinegar.now target.now salt.now
-        work.old output.old result work.new output.new }
+    requires { first (sign_refusals (numbers set) public.now abq.now private.now vinegar.now target.now salt.now work.old output.old) ≡ 0 }
+    ensures { Signs (numbers set) public.now abq.now private.now vinegar.now target.now salt.now
+        work.old output.old (Ok result) work.new output.new }
 {
-    let outcome = solve(work, set, public, abq, private, vinegar, target);
-    match outcome {
-        Outcome::Solved => {
+    match solve(work, set, public, abq, private, vinegar, target) {
+        Ok(()) => {
             emit(output, set, private, vinegar, salt, work);
             rows::clear(work);
             Signing::Done
         }
-        Outcome::Singular => {
+        Err(Singular) => {
             rows::clear(work); // the output stays as it was
             Signing::Redo
         }
@@ -68,17 +67,16 @@ pub fn sign(
     salt: &[u8],
     work: &mut [u8],
     output: &mut [u8],
-) -> Signing
+) -> Result<Signing, Refusal>
     ensures { Signs set public.now abq.now private.now vinegar.now target.now salt.now
         work.old output.old result work.new output.new }
 {
-    let answer = checks::check_sign(
+    checks::check_sign(
+        set, public, abq, private, vinegar, target, salt, work, output,
+    )?;
+    let set = AllowedSet::new(set)?;
+    let signed = sign_lent(
         set, public, abq, private, vinegar, target, salt, work, output,
     );
-    let Answer::Done = answer else {
-        return Signing::Refused(ground::number(answer));
-    };
-    sign_lent(
-        set, public, abq, private, vinegar, target, salt, work, output,
-    )
+    Ok(signed)
 }

@@ -1,16 +1,17 @@
 // The numbers of page 01 that a caller can receive from signing.
 ghost use Rattle.std.specs.Prelude.{◌≡◌};
-ghost use Rattle.signing.specs.Signs.{number_of};
+ghost use Rattle.signing.specs.Signs.{number_of_signing};
 
 use crate::Signing;
+use ground::PageNumber;
 
-// The page's number of an answer.
-pub fn number(answer: Signing) -> u32
-    ensures { result ≡ number_of answer }
-{
-    match answer {
-        Signing::Done => 0,
-        Signing::Redo => 2,
-        Signing::Refused(n) => n,
+impl PageNumber for Signing {
+    ghost page_number = { number_of_signing };
+
+    fn page_number(self) -> u32 {
+        match self {
+            Signing::Done => 0,
+            Signing::Redo => 2,
+        }
     }
 }

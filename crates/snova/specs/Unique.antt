@@ -2,7 +2,8 @@
 -- Rests on the uniqueness of the promises behind the C interface.
 use Rattle.std.specs.Prelude.{◌≡◌, List, ℕ}
 use Rattle.std.proofs.Common.{sym, ap, ◌∙◌}
-use Rattle.ground.specs.Outcome.{unique-equation}
+use Rattle.salt.specs.Unique.{unique-salt-status}
+use Rattle.verdict.specs.Unique.{unique-verify}
 use Rattle.packing.specs.Unique.{unique-pack, unique-unpack}
 use Rattle.sets.specs.declared.Set.{Set}
 use Rattle.keys.specs.Unique.{unique-generate}
@@ -25,10 +26,10 @@ unique-snova-sign set public abq private vinegar target salt work output a b =
 
 pub unique-snova-verify : (set : Set) (public abq target key signature : List ℕ) {n n' : ℕ} → Verify set public abq target key signature n
     → Verify set public abq target key signature n' → n ≡ n'
-unique-snova-verify set public abq target key signature a b = unique-numbered a b (unique-equation a.meets b.meets)
+unique-snova-verify set public abq target key signature a b = unique-numbered a b (unique-verify set public abq target key signature a.meets b.meets)
 
 pub unique-snova-salt-status : (set : Set) (signature : List ℕ) {n n' : ℕ} → Status set signature n → Status set signature n' → n ≡ n'
-unique-snova-salt-status set signature a b = unique-numbered a b (unique-equation a.meets b.meets)
+unique-snova-salt-status set signature a b = unique-numbered a b (unique-salt-status set signature a.meets b.meets)
 
 pub unique-snova-pack : (elements bytes : List ℕ) {n n' : ℕ} {s s' : List ℕ} → Pack elements bytes n s → Pack elements bytes n' s' → (n ≡ n') × (s ≡ s')
 unique-snova-pack elements bytes a b = let u = unique-pack elements a.meets b.meets in (unique-numbered a b u.0, u.1)

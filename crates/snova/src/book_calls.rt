@@ -1,8 +1,7 @@
 // The C interface of exercise books (page 02, Req 13) and of salvage (Req 14): each function on lent buffers, a pointer and then a length each, answered by the page's number.
 // The promise is that of the function behind it (specs/BookCalls.antt).
+// Alike in form to the other calls: the C interface.
 ghost use Rattle.snova.specs.BookCalls.{BookWrite, BookRead, BookField, BookPayload, BookSalvage};
-
-use salvage::Salvaged;
 
 // The fields that the lists tell, as a book: 0, 45, 46 or 20.
 pub fn snova_book_write(
@@ -28,7 +27,7 @@ pub fn snova_book_read(book: &[u8]) -> u32
 pub fn snova_book_field(book: &[u8], block: usize, numbers: &mut [u64]) -> u32
     ensures { BookField book.now block numbers.old result numbers.new }
 {
-    book_reader::field(book, block, numbers)
+    ground::number(book_reader::field(book, block, numbers))
 }
 
 // The bytes of the field that begins at a block: 0, 40 to 43, or 20.
@@ -43,8 +42,9 @@ pub fn snova_book_salvage(book: &[u8], output: &mut [u8], list: &mut [u8], kept:
     ensures { BookSalvage book.now output.old list.old kept.old result output.new list.new kept.new }
 {
     let answer = salvage::salvage(book, output, list);
-    let Salvaged::Kept(count) = answer else {
-        return salvage::number(answer);
+    // `let .. else`, which page 01 names; the C interface gives the number, and `kept` is written only where nothing is refused
+    let Ok(count) = answer else {
+        return ground::number(answer);
     };
     *kept = count;
     0

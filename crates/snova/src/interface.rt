@@ -1,5 +1,6 @@
 // The C interface: each function of the model on a set given by its three numbers and on lent buffers, a pointer and then a length each, answered by page 01's number.
 // The promise is that of the function behind it (`Numbered` of specs/Interface.antt); any numbers and any buffers are answered.
+// Alike in form, each a call and its number: the C interface.
 ghost use Rattle.sets.specs.Table.{set_of};
 ghost use Rattle.snova.specs.Interface.{Keygen, Sign, Verify, Status, Pack, Unpack};
 
@@ -36,7 +37,7 @@ pub fn snova_sign(
     ensures { Sign (set_of v o l) public.now abq.now private.now vinegar.now target.now salt.now
         work.old signature.old result work.new signature.new }
 {
-    signing::number(signing::sign(
+    ground::number(signing::sign(
         Set { v, o, l },
         public,
         abq,
@@ -62,7 +63,7 @@ pub fn snova_verify(
 ) -> u32
     ensures { Verify (set_of v o l) public.now abq.now target.now key.now signature.now result }
 {
-    verdict::number(verdict::verify(Set { v, o, l }, public, abq, target, key, signature))
+    ground::number(verdict::verify(Set { v, o, l }, public, abq, target, key, signature))
 }
 
 // Whether the set and the signature's length allow a salt: 0, 10 or 18.

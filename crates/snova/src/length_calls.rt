@@ -1,5 +1,6 @@
 // The lengths, for callers in C: the exact length in bytes of each stream and buffer of the set with these three numbers; 0 for a set that is refused.
 // The promise is that of the function of `sets` behind it.
+// Alike in form, since the C interface has a name for each length.
 ghost use Rattle.std.specs.Prelude.{◌≡◌};
 ghost use Rattle.ground.specs.Pick.{pick};
 ghost use Rattle.sets.specs.Table.{set_of};

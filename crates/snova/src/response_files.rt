@@ -1,4 +1,5 @@
 // The functions of response files for the C interface (page 02, Req 01): each by the page's number, over lent buffers.
+// Alike in form to the other calls: the C interface.
 ghost use Rattle.std.specs.Prelude.{◌≡◌};
 ghost use Rattle.response_format.specs.Rules.{refusal_of};
 ghost use Rattle.snova.specs.Responses.{DecodeHex};
@@ -14,5 +15,5 @@ pub fn snova_decode_hex(digits: &[u8], bytes: &mut [u8]) -> u32
 pub fn snova_responses(file: &[u8]) -> u32
     ensures { result ≡ refusal_of file.now }
 {
-    responses::refusal(file)
+    ground::number(responses::refusal(file))
 }

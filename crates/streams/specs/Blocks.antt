@@ -1,11 +1,11 @@
 -- A block of a packed stream: its bytes, and what Algorithm 2 makes of it. Elements of a stream are below 16, so 10 and 23 cannot come.
 -- Rests on scheme's blocks, and on matrix's promise of Algorithm 2.
-use Rattle.std.specs.Prelude.{◌≡◌, true, List, ℕ, ◌+◌, ◌*◌, ◌/◌, ◌%◌, ◌<◌, ◌≤◌}
+use Rattle.std.specs.Prelude.{◌≡◌, Result, Ok, true, List, ℕ, ◌+◌, ◌*◌, ◌/◌, ◌%◌, ◌<◌, ◌≤◌}
 use Rattle.std.proofs.Common.{sym, ap, ◌∙◌, arith}
 use borrow.Author.Tests.{lt-ltb, le-ltb}
 use Rattle.std.proofs.Math.Arith.{digits_lt}
 use Rattle.ground.specs.Pick.{pick}
-use Rattle.ground.specs.Answers.{answer_of, first, first-met, met-none, met-more}
+use Rattle.ground.specs.Answers.{first, first-met, met-none, met-more}
 use Rattle.packing.specs.Packing.{element}
 use Rattle.matrix.specs.Matrix.{Matrix}
 use Rattle.matrix.specs.Same.{Same}
@@ -16,7 +16,7 @@ use Rattle.matrix.specs.Limits.{size_allowed, matrix_rules, invertible_rules}
 use Rattle.matrix.specs.LimitLaws.{entries-pass, allowed-most}
 use Rattle.matrix.specs.PromiseLaws.{invertible-asked}
 use Rattle.matrix.specs.Promises.{Makes}
-use Rattle.matrix.specs.declared.Made.{Made}
+use Rattle.ground.specs.declared.Refusal.{Refusal}
 use Rattle.scheme.specs.Streams.{block_of}
 use Rattle.scheme.specs.Entries.{block_of-lt}
 
@@ -54,17 +54,16 @@ only-21 {l} {M} {N} allowed small same =
     invertible-asked l M none ∙ ap (λ b. pick b 0 21) (can_be_invertible-same same)
 
 -- the promise, said of the matrix that was read
-makes-of : {l : ℕ} {M N : Matrix} {r : Made} → size_allowed l ≡ true → ((x y : ℕ) → N x y < 16) → Same l M N
+makes-of : {l : ℕ} {M N : Matrix} {r : Result (List ℕ) Refusal} → size_allowed l ≡ true → ((x y : ℕ) → N x y < 16) → Same l M N
     → Makes (first (invertible_rules l M)) (block l (algorithm2 l M)) r → Makes (pick (can_be_invertible l N) 0 21) (block l (algorithm2 l N)) r
 makes-of {l} {M} {N} {r} allowed small same m =
     let number : first (invertible_rules l M) ≡ pick (can_be_invertible l N) 0 21 = only-21 allowed small same in
     record {
-      answer = m.answer ∙ ap answer_of number;
-      refused = λ n. m.refused (λ z. n (sym number ∙ z));
-      done = λ z. m.done (number ∙ z) ∙ block_same (algorithm2-same same);
+      number = m.number ∙ number;
+      done = λ z. m.done (number ∙ z) ∙ ap Ok (block_same (algorithm2-same same));
     }
 
-pub makes-read : (l : ℕ) (s : List ℕ) (number : ℕ) {m : List ℕ} {r : Made} → size_allowed l ≡ true → m ≡ block l (block_of l s number)
+pub makes-read : (l : ℕ) (s : List ℕ) (number : ℕ) {m : List ℕ} {r : Result (List ℕ) Refusal} → size_allowed l ≡ true → m ≡ block l (block_of l s number)
     → Makes (first (invertible_rules l (view m))) (block l (algorithm2 l (view m))) r
     → Makes (pick (can_be_invertible l (block_of l s number)) 0 21) (block l (algorithm2 l (block_of l s number))) r
 makes-read l s number allowed e = makes-of allowed (block_of-lt l s number) (holds (omega (arith, allowed-most l allowed)) e)

@@ -1,6 +1,6 @@
 -- A term of an equation as the code holds it, and the ABQ stream that it is read from.
 -- Rests on scheme's A, B and coefficients, and on matrix's promise of Algorithm 2.
-use Rattle.std.specs.Prelude.{◌≡◌, Bool, true, List, ℕ, ◌*◌, ◌<◌, length, get_or}
+use Rattle.std.specs.Prelude.{◌≡◌, Result, Ok, Bool, true, List, ℕ, ◌*◌, ◌<◌, length, get_or}
 use Rattle.std.proofs.Math.Path.{ap}
 use Rattle.std.proofs.Common.{◌∙◌, zero-add as zero-plus, arith}
 use Rattle.ground.specs.Pick.{pick}
@@ -12,7 +12,7 @@ use Rattle.sets.specs.Sets.{all_terms, abq_bytes}
 use Rattle.matrix.specs.Block.{block, stride}
 use Rattle.matrix.specs.Invertible.{algorithm2, can_be_invertible}
 use Rattle.matrix.specs.Promises.{Makes}
-use Rattle.matrix.specs.declared.Made.{Made}
+use Rattle.ground.specs.declared.Refusal.{Refusal}
 use Rattle.scheme.specs.Streams.{block_of, a_number, b_number, A, B}
 use Rattle.scheme.specs.Maps.{matrix_index, all_invertible}
 use Rattle.scheme.specs.Regroup.{q1_of, q2_of}
@@ -42,20 +42,20 @@ coefficient-in s x h = rw (zero-plus x) at (s.inside x h)
 abbrev pub passes : (l : ℕ) (abq : List ℕ) → ℕ → Bool
 passes l abq b = can_be_invertible l (block_of l abq b)
 
-made-is : (set : Set) (abq : List ℕ) (b : ℕ) {result : List ℕ} {r : Made} → all_invertible set abq ≡ true → b < 2 * all_terms set
-    → Makes (pick (passes set.l abq b) 0 21) result r → r.block ≡ result
+made-is : (set : Set) (abq : List ℕ) (b : ℕ) {result : List ℕ} {r : Result (List ℕ) Refusal} → all_invertible set abq ≡ true → b < 2 * all_terms set
+    → Makes (pick (passes set.l abq b) 0 21) result r → r ≡ Ok result
 unfolding all_invertible
 made-is set abq b all h m = m.done (ap (λ b. pick b 0 21) (every-at (2 * all_terms set) (passes set.l abq) all b h))
 
 module _ {set : Set} {i alpha : ℕ} (t : TermPlace set i alpha) (abq : List ℕ) (lent : AbqLent set abq) where
   -- the block with A's number
-  pub a-is : {n : ℕ} {r : Made} → n ≡ a_number set i alpha
-      → Makes (pick (passes set.l abq n) 0 21) (block set.l (algorithm2 set.l (block_of set.l abq n))) r → r.block ≡ block set.l (A set abq i alpha)
+  pub a-is : {n : ℕ} {r : Result (List ℕ) Refusal} → n ≡ a_number set i alpha
+      → Makes (pick (passes set.l abq n) 0 21) (block set.l (algorithm2 set.l (block_of set.l abq n))) r → r ≡ Ok (block set.l (A set abq i alpha))
   unfolding A
-  a-is {n} e m = made-is set abq n lent.invertible (omega (arith, a-within t)) m ∙ ap (λ n. block set.l (algorithm2 set.l (block_of set.l abq n))) e
+  a-is {n} e m = made-is set abq n lent.invertible (omega (arith, a-within t)) m ∙ ap (λ n. Ok (block set.l (algorithm2 set.l (block_of set.l abq n)))) e
 
   -- and the one with B's
-  pub b-is : {n : ℕ} {r : Made} → n ≡ b_number set i alpha
-      → Makes (pick (passes set.l abq n) 0 21) (block set.l (algorithm2 set.l (block_of set.l abq n))) r → r.block ≡ block set.l (B set abq i alpha)
+  pub b-is : {n : ℕ} {r : Result (List ℕ) Refusal} → n ≡ b_number set i alpha
+      → Makes (pick (passes set.l abq n) 0 21) (block set.l (algorithm2 set.l (block_of set.l abq n))) r → r ≡ Ok (block set.l (B set abq i alpha))
   unfolding B
-  b-is {n} e m = made-is set abq n lent.invertible (omega (arith, b-within t)) m ∙ ap (λ n. block set.l (algorithm2 set.l (block_of set.l abq n))) e
+  b-is {n} e m = made-is set abq n lent.invertible (omega (arith, b-within t)) m ∙ ap (λ n. Ok (block set.l (algorithm2 set.l (block_of set.l abq n)))) e

@@ -1,6 +1,6 @@
 -- No second outcome meets a contract of this crate: what is read is fixed by what went in. Of what `lay_blocks` leaves, the blocks are fixed, and nothing else is read.
 -- Rests on ground's `unique-equation` and the uniqueness of segments, and on matrix's `unique-makes`.
-use Rattle.std.specs.Prelude.{◌≡◌, List, ℕ, ◌+◌, ◌*◌, ◌<◌, get_or}
+use Rattle.std.specs.Prelude.{◌≡◌, Result, List, ℕ, ◌+◌, ◌*◌, ◌<◌, get_or}
 use Rattle.std.proofs.Common.{sym, ◌∙◌}
 use Rattle.ground.specs.Pick.{pick}
 use Rattle.ground.specs.Outcome.{unique-equation}
@@ -12,7 +12,7 @@ use Rattle.matrix.specs.RingElements.{coefficient}
 use Rattle.matrix.specs.Invertible.{algorithm2, can_be_invertible}
 use Rattle.matrix.specs.Promises.{Makes}
 use Rattle.matrix.specs.Unique.{unique-makes}
-use Rattle.matrix.specs.declared.Made.{Made}
+use Rattle.ground.specs.declared.Refusal.{Refusal}
 use Rattle.scheme.specs.Streams.{block_of, group_of, a_number, b_number, q1_number, q2_number}
 use Rattle.scheme.specs.Maps.{matrix_index}
 use Rattle.streams.specs.declared.Term.{Term}
@@ -26,11 +26,11 @@ unique-number-of-row a b = a.is ∙ sym b.is
 pub unique-read-block : (l : ℕ) (stream : List ℕ) (number : ℕ) {r r' : List ℕ} → r ≡ block l (block_of l stream number) → r' ≡ block l (block_of l stream number) → r ≡ r'
 unique-read-block l stream number = unique-equation
 
--- the answer, and the block beside it
-pub unique-invertible-at : (l : ℕ) (stream : List ℕ) (number : ℕ) {r r' : Made}
+-- the refusal, or the block
+pub unique-invertible-at : (l : ℕ) (stream : List ℕ) (number : ℕ) {r r' : Result (List ℕ) Refusal}
     → Makes (pick (can_be_invertible l (block_of l stream number)) 0 21) (block l (algorithm2 l (block_of l stream number))) r
     → Makes (pick (can_be_invertible l (block_of l stream number)) 0 21) (block l (algorithm2 l (block_of l stream number))) r'
-    → (r.answer ≡ r'.answer) × (r.block ≡ r'.block)
+    → r ≡ r'
 unique-invertible-at l stream number = unique-makes
 
 pub unique-matrix-index : (set : Set) (i alpha : ℕ) {r r' : ℕ} → r ≡ matrix_index set i alpha → r' ≡ matrix_index set i alpha → r ≡ r'

@@ -27,10 +27,8 @@ pub fn coefficients_of(stream: &[u8], l: usize, group: usize) -> [u8; STRIDE]
     ensures { Segment (zeros stride) 0 l (coefficient l (group_of l stream.now group)) result }
 {
     let mut out = [0; STRIDE];
-    let mut p = 0;
-    while p < l {
+    for p in 0..l {
         out[p] = coefficient_at(stream, l, group, p);
-        p += 1;
     }
     out
 }

@@ -15,10 +15,8 @@ fn add_tile(sum: &mut [u8], l: usize, factor: u8, table: &[u8], w: usize, j: usi
     requires { (l ≤ stride) × ((block_bytes ≤ length sum.old) × (((j + 1) * l * w ≤ length table.now) × ((k + 1) * l ≤ w))) }
     ensures { PlusRows sum.old 0 l stride (block_row l (scale_m factor (tile l w table.now j k))) sum.new }
 {
-    let mut r = 0;
-    while r < l {
+    for r in 0..l {
         rows::add_scaled(sum, r * STRIDE, table, (j * l + r) * w + k * l, l, factor);
-        r += 1;
     }
 }
 
@@ -38,8 +36,7 @@ pub fn combined(
     ensures { result ≡ block l (combined_from l (coefficients q) table.now w row column down across) }
 {
     let mut sum = [0u8; BYTES];
-    let mut x = 0;
-    while x < l {
+    for x in 0..l {
         let factor = q[x];
         add_tile(
             &mut sum,
@@ -50,7 +47,6 @@ pub fn combined(
             row + x * down,
             column + x * across,
         );
-        x += 1;
     }
     sum
 }

@@ -2,7 +2,7 @@
 // left, right and sums are the tables of fill_left and fill_right, sp is the table of the powers of S.
 ghost use Rattle.std.specs.Prelude.{◌≡◌, List, ℕ, ◌+◌, ◌*◌, ◌<◌, ◌≤◌, length};
 ghost use Rattle.rows.specs.PlusRows.{PlusRows};
-ghost use Rattle.sets.specs.Bounds.{Bounds};
+ghost use Rattle.sets.specs.Numbers.{numbers};
 ghost use Rattle.sets.specs.Sets.{target_bytes};
 ghost use Rattle.matrix.specs.Block.{block_bytes, stride};
 ghost use Rattle.streams.specs.TermOf.{AbqLent, TermOf};
@@ -11,7 +11,7 @@ ghost use Rattle.system.specs.Equation.{left_term, right_term, target_added, sys
 use super::blocks::combined;
 use super::sides::{add_outer, add_rows, fill_sides};
 use matrix::{BYTES, Block, STRIDE};
-use sets::{MOST_L, MOST_O, MOST_ROW, Set};
+use sets::{AllowedSet, MOST_L, MOST_O, MOST_ROW};
 use streams::Term;
 
 // Room for o blocks.
@@ -21,22 +21,23 @@ const SIDES: usize = MOST_O * BYTES;
 const PRODUCTS: usize = MOST_ROW * (MOST_L * STRIDE);
 
 // The left and the right products of an equation gain those of one term.
+#[tactic(auto, using(sets::proofs::Bounds::bounds_of, partial_sums::specs::SumPlaces::sizes, ground::specs::Place::row_fits))]
 fn add_term(
     lefts: &mut [u8],
     rights: &mut [u8],
-    set: Set,
+    set: AllowedSet,
     term: Term,
     left: &[u8],
     right: &[u8],
     sp: &[u8],
 )
-    requires bounds { Bounds set × ((term.index < set.o) × (length term.a ≡ block_bytes)) }
-    requires product_rooms { ProductRooms set (length lefts.old) (length rights.old) }
-    requires table_rooms { TableRooms set (length left.now) (length right.now) (length sp.now) }
-    ensures by_index { (abq : List ℕ) (i alpha : ℕ) → TermOf set abq i alpha term → PlusRows lefts.old 0 (set.o * set.l * set.l) (set.l * stride)
-        (left_term set abq left.now right.now sp.now i alpha) lefts.new }
-    ensures by_index_2 { (abq : List ℕ) (i alpha : ℕ) → TermOf set abq i alpha term → PlusRows rights.old 0 (set.o * set.l * set.l) (set.l * stride)
-        (right_term set abq left.now right.now sp.now i alpha) rights.new }
+    requires index_lt_o { (term.index < set.o) × (length term.a ≡ block_bytes) }
+    requires product_rooms { ProductRooms (numbers set) (length lefts.old) (length rights.old) }
+    requires table_rooms { TableRooms (numbers set) (length left.now) (length right.now) (length sp.now) }
+    ensures by_index { (abq : List ℕ) (i alpha : ℕ) → TermOf (numbers set) abq i alpha term → PlusRows lefts.old 0 (set.o * set.l * set.l) (set.l * stride)
+        (left_term (numbers set) abq left.now right.now sp.now i alpha) lefts.new }
+    ensures by_index_2 { (abq : List ℕ) (i alpha : ℕ) → TermOf (numbers set) abq i alpha term → PlusRows rights.old 0 (set.o * set.l * set.l) (set.l * stride)
+        (right_term (numbers set) abq left.now right.now sp.now i alpha) rights.new }
 {
     let l = set.l;
     let o = set.o;
@@ -84,7 +85,7 @@ fn add_term(
 fn add_terms(
     lefts: &mut [u8],
     rights: &mut [u8],
-    set: Set,
+    set: AllowedSet,
     abq: &[u8],
     left: &[u8],
     right: &[u8],
@@ -92,44 +93,41 @@ fn add_terms(
     sp: &[u8],
     i: usize,
 ) -> Block
-    requires bounds { Bounds set × (i < set.o) }
-    requires abq_lent { AbqLent set abq.now × (set.o * (set.l * set.l) * (set.l * set.l) ≤ length sums.now) }
-    requires product_rooms { ProductRooms set (length lefts.old) (length rights.old) }
-    requires table_rooms { TableRooms set (length left.now) (length right.now) (length sp.now) }
-    ensures { Gathered set abq.now left.now right.now sums.now sp.now i
+    requires i_lt_o { i < set.o }
+    requires abq_lent { AbqLent (numbers set) abq.now × (set.o * (set.l * set.l) * (set.l * set.l) ≤ length sums.now) }
+    requires product_rooms { ProductRooms (numbers set) (length lefts.old) (length rights.old) }
+    requires table_rooms { TableRooms (numbers set) (length left.now) (length right.now) (length sp.now) }
+    ensures { Gathered (numbers set) abq.now left.now right.now sums.now sp.now i
         lefts.old rights.old lefts.new rights.new result }
 {
     let l = set.l;
     let count = sets::terms(set);
     let mut known = [0; BYTES];
-    let mut alpha = 0;
-    while alpha < count {
+    for alpha in 0..count {
         let term = streams::read_term(set, abq, i, alpha);
         add_term(lefts, rights, set, term, left, right, sp);
         let value = terms::term_block(l, term, sums);
         let more = matrix::plus(l, known, value);
         known = more;
-        alpha += 1;
     }
     known
 }
 
 // The last byte of each row of equation i, from byte `at` on, gains the vinegar part's entry and the target's.
-fn add_target(g: &mut [u8], at: usize, set: Set, known: Block, target: &[u8], i: usize)
-    requires bounds { Bounds set × (i < set.o) }
-    requires l_in_bounds { (at + set.l * set.l * (set.o * set.l * set.l + 1) ≤ length g.old) × (length target.now ≡ target_bytes set) }
+#[tactic(auto, using(sets::proofs::Bounds::bounds_of, partial_sums::specs::SumPlaces::sizes))]
+fn add_target(g: &mut [u8], at: usize, set: AllowedSet, known: Block, target: &[u8], i: usize)
+    requires i_lt_o { i < set.o }
+    requires l_in_bounds { (at + set.l * set.l * (set.o * set.l * set.l + 1) ≤ length g.old) × (length target.now ≡ target_bytes (numbers set)) }
     ensures { PlusRows g.old at (set.l * set.l) (set.o * set.l * set.l + 1)
         (target_added set.l (set.o * set.l * set.l) (set.l * set.l) known target.now i) g.new }
 {
     let l = set.l;
     let n = set.o * l * l;
     let total = l * l;
-    let mut e = 0;
-    while e < total {
+    for e in 0..total {
         let place = at + e * (n + 1) + n;
         rows::add_scaled(g, place, &known, e / l * STRIDE + e % l, 1, 1);
         rows::add_elements(g, place, target, i * total + e, 1);
-        e += 1;
     }
 }
 
@@ -137,7 +135,7 @@ fn add_target(g: &mut [u8], at: usize, set: Set, known: Block, target: &[u8], i:
 fn add_equation(
     g: &mut [u8],
     at: usize,
-    set: Set,
+    set: AllowedSet,
     abq: &[u8],
     target: &[u8],
     left: &[u8],
@@ -146,12 +144,12 @@ fn add_equation(
     sp: &[u8],
     i: usize,
 )
-    requires bounds { Bounds set × (i < set.o) }
-    requires abq_lent { AbqLent set abq.now × ((length target.now ≡ target_bytes set) × (set.o * (set.l * set.l) * (set.l * set.l) ≤ length sums.now)) }
+    requires i_lt_o { i < set.o }
+    requires abq_lent { AbqLent (numbers set) abq.now × ((length target.now ≡ target_bytes (numbers set)) × (set.o * (set.l * set.l) * (set.l * set.l) ≤ length sums.now)) }
     requires l_in_bounds { at + set.l * set.l * (set.o * set.l * set.l + 1) ≤ length g.old }
-    requires table_rooms { TableRooms set (length left.now) (length right.now) (length sp.now) }
+    requires table_rooms { TableRooms (numbers set) (length left.now) (length right.now) (length sp.now) }
     ensures { PlusRows g.old at (set.l * set.l) (set.o * set.l * set.l + 1)
-        (system_row set abq.now target.now left.now right.now sums.now sp.now i) g.new }
+        (system_row (numbers set) abq.now target.now left.now right.now sums.now sp.now i) g.new }
 {
     let mut lefts = [0u8; PRODUCTS];
     let mut rights = [0u8; PRODUCTS];
@@ -163,7 +161,7 @@ fn add_equation(
 // g becomes the system, o·l·l rows of o·l·l + 1 bytes, and zeros behind it.
 pub fn build(
     g: &mut [u8],
-    set: Set,
+    set: AllowedSet,
     abq: &[u8],
     target: &[u8],
     left: &[u8],
@@ -171,19 +169,17 @@ pub fn build(
     sums: &[u8],
     sp: &[u8],
 )
-    requires bounds { Bounds set × (set.o * (set.l * set.l) * (set.o * set.l * set.l + 1) ≤ length g.old) }
-    requires abq_lent { AbqLent set abq.now × ((length target.now ≡ target_bytes set) × (set.o * (set.l * set.l) * (set.l * set.l) ≤ length sums.now)) }
-    requires table_rooms { TableRooms set (length left.now) (length right.now) (length sp.now) }
-    ensures { Built set abq.now target.now left.now right.now sums.now sp.now
+    requires g_len { set.o * (set.l * set.l) * (set.o * set.l * set.l + 1) ≤ length g.old }
+    requires abq_lent { AbqLent (numbers set) abq.now × ((length target.now ≡ target_bytes (numbers set)) × (set.o * (set.l * set.l) * (set.l * set.l) ≤ length sums.now)) }
+    requires table_rooms { TableRooms (numbers set) (length left.now) (length right.now) (length sp.now) }
+    ensures { Built (numbers set) abq.now target.now left.now right.now sums.now sp.now
         g.old g.new }
 {
     let o = set.o;
     let l = set.l;
     rows::clear(g);
-    let mut i = 0;
-    while i < o {
+    for i in 0..o {
         let at = i * (l * l * (o * l * l + 1));
         add_equation(g, at, set, abq, target, left, right, sums, sp, i);
-        i += 1;
     }
 }

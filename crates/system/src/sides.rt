@@ -12,6 +12,7 @@ use matrix::{BYTES, Block, STRIDE};
 
 // out becomes, for each k below count, the block first · (what the coefficients q combine of the table) · last; and zeros behind them.
 // The left sums go down the table's block rows and by k across; the right sums go across and by k down.
+// `down` and `across` are strides, not a switch: the step is one for both kinds of sums.
 pub fn fill_sides(
     out: &mut [u8],
     l: usize,
@@ -32,13 +33,11 @@ pub fn fill_sides(
         out.new × (length out.new ≡ length out.old) }
 {
     rows::clear(out);
-    let mut k = 0;
-    while k < count {
+    for k in 0..count {
         let middle = combined(table, l, w, row + k * across, k * down, down, across, q);
         let right = matrix::product(l, middle, last);
         let side = matrix::product(l, first, right);
         rows::add_scaled(out, k * BYTES, &side, 0, BYTES, 1);
-        k += 1;
     }
 }
 
@@ -50,12 +49,10 @@ pub fn add_outer(products: &mut [u8], l: usize, count: usize, sides: &[u8], m: &
 {
     let width = l * STRIDE;
     let total = count * l * l;
-    let mut z = 0;
-    while z < total {
+    for z in 0..total {
         let k = z / l / l * BYTES;
         let scalar = sides[k + (z / l % l * STRIDE + z % l)];
         rows::add_scaled(products, z * width, m, 0, width, scalar);
-        z += 1;
     }
 }
 
@@ -77,13 +74,11 @@ fn add_row(
 {
     let width = l * STRIDE;
     let total = count * l;
-    let mut q = 0;
-    while q < total {
+    for q in 0..total {
         let left = (q / l * l + r) * l + q % l;
         let right = q * l + c;
         rows::add_scaled(g, at + q * l, lefts, left * width + c * STRIDE, l, 1);
         rows::add_scaled(g, at + q * l, rights, right * width + r * STRIDE, l, 1);
-        q += 1;
     }
 }
 
@@ -96,9 +91,7 @@ pub fn add_rows(g: &mut [u8], at: usize, l: usize, count: usize, lefts: &[u8], r
 {
     let width = count * l * l + 1;
     let total = l * l;
-    let mut e = 0;
-    while e < total {
+    for e in 0..total {
         add_row(g, at + e * width, l, count, lefts, rights, e / l, e % l);
-        e += 1;
     }
 }

@@ -38,11 +38,9 @@ pub fn add_block_row(
     requires { (at + count * l ≤ length dst.old) × (r < l) × ((number + count) * (l * l) ≤ 2 * length stream.now) }
     ensures { Plus dst.old at (count * l) (blocks_row l stream.now number r) dst.new }
 {
-    let mut k = 0;
-    while k < count {
+    for k in 0..count {
         let from = row_start(l, number + k, r);
         rows::add_elements(dst, at + k * l, stream, from, l);
-        k += 1;
     }
 }
 

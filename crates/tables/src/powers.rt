@@ -18,10 +18,8 @@ fn add_power(sp: &mut [u8], at: usize, l: usize, p: usize)
     ensures { PlusRows sp.old at l l (power_s l p) sp.new }
 {
     let power = matrix::s_power(l, p);
-    let mut r = 0;
-    while r < l {
+    for r in 0..l {
         rows::add_scaled(sp, at + r * l, &power, r * STRIDE, l, 1);
-        r += 1;
     }
 }
 
@@ -31,10 +29,8 @@ pub fn powers_of_s(sp: &mut [u8], l: usize)
     ensures { Filled l l l 1 (λ p k. power_s l p) sp.old sp.new }
 {
     rows::clear(sp);
-    let mut p = 0;
-    while p < l {
+    for p in 0..l {
         add_power(sp, p * (l * l), l, p);
-        p += 1;
     }
 }
 
@@ -43,10 +39,8 @@ fn power_row(w: &mut [u8], at: usize, l: usize, list: &[u8], k: usize, sp: &[u8]
     requires { (at + l * l ≤ length w.old) × (x < l) × ((k + 1) * (l * l) ≤ length list.now) × (l * l * l ≤ length sp.now) }
     ensures { Plus w.old at (l * l) (powers_row l list.now k sp.now x) w.new }
 {
-    let mut b = 0;
-    while b < l {
+    for b in 0..l {
         rows::add_columns(w, at + b * l, l, sp, (b * l + x) * l, 1, l, list, k * l);
-        b += 1;
     }
 }
 
@@ -59,9 +53,7 @@ pub fn power_table(w: &mut [u8], l: usize, n: usize, list: &[u8], sp: &[u8])
     rows::clear(w);
     let row = l * l;
     let count = n * l;
-    let mut y = 0;
-    while y < count {
+    for y in 0..count {
         power_row(w, y * row, l, list, y / l, sp, y % l);
-        y += 1;
     }
 }

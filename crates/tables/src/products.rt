@@ -28,10 +28,8 @@ pub fn add_blocks(
 {
     let mut flat = [0u8; FLAT_ROOM];
     let place = streams::lay_blocks(&mut flat, stream, number, l, count);
-    let mut r = 0;
-    while r < l {
+    for r in 0..l {
         let w = words::product_word(multiples, first * l, l, &flat, place + r * l, count);
         words::add_word(dst, at + r * n, n, w);
-        r += 1;
     }
 }

@@ -22,10 +22,8 @@ pub fn add_transposed(
     requires { (at + m * n ≤ length dst.old) × ((place + count * m ≤ length scalars.now) × ((count * n ≤ length src.now) × (0 < count))) }
     ensures { PlusRows dst.old at m n (transposed_gain scalars.now place m count (rows_of n src.now)) dst.new }
 {
-    let mut y = 0;
-    while y < m {
+    for y in 0..m {
         rows::add_columns(dst, at + y * n, n, scalars, place + y, m, count, src, 0);
-        y += 1;
     }
 }
 
@@ -42,10 +40,8 @@ pub fn add_times(
     requires { (at + m * n ≤ length dst.old) × ((m * count ≤ length scalars.now) × (count * n ≤ length src.now)) }
     ensures { PlusRows dst.old at m n (times_gain (rows_of count scalars.now) count (rows_of n src.now)) dst.new }
 {
-    let mut y = 0;
-    while y < m {
+    for y in 0..m {
         rows::add_columns(dst, at + y * n, n, scalars, y * count, 1, count, src, 0);
-        y += 1;
     }
 }
 
@@ -63,10 +59,8 @@ fn copy_column(
     requires stride_nonzero { 0 < stride }
     ensures { Column dst.old at stride count (λ k. get_or src.now (from + k * step) 0) dst.new }
 {
-    let mut k = 0;
-    while k < count {
+    for k in 0..count {
         dst[at + k * stride] = src[from + k * step];
-        k += 1;
     }
 }
 
@@ -81,11 +75,9 @@ fn load_blocks(dst: &mut [u8], l: usize, stream: &[u8], number: usize, count: us
     let place = streams::lay_blocks(&mut flat, stream, number, l, count);
     let n = count * l;
     let size = l * l;
-    let mut e = 0;
-    while e < size {
+    for e in 0..size {
         // entry (r, c), where e = r·l + c
         copy_column(dst, e / l * n + e % l, l, &flat, place + e, size, count);
-        e += 1;
     }
 }
 
@@ -108,10 +100,8 @@ pub fn add_left(
 {
     let n = count * l;
     let mut buffer = [0u8; VINEGAR_ROOM];
-    let mut j = 0;
-    while j < v {
+    for j in 0..v {
         load_blocks(&mut buffer, l, stream, number + j * count, count);
         add_transposed(dst, at, n, x, j * (l * m), m, l, &buffer);
-        j += 1;
     }
 }

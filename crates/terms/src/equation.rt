@@ -1,14 +1,14 @@
 // Equation i of a map from a table of its power sums: the sum over alpha of A · (what stands between) · B.
 ghost use Rattle.std.specs.Prelude.{◌≡◌, ◌+◌, ◌*◌, ◌<◌, ◌≤◌, length};
 ghost use Rattle.sets.specs.Sets.{most_l};
-ghost use Rattle.sets.specs.Bounds.{Bounds};
+ghost use Rattle.sets.specs.Numbers.{numbers};
 ghost use Rattle.matrix.specs.Block.{block};
 ghost use Rattle.streams.specs.TermOf.{AbqLent};
 ghost use Rattle.terms.specs.Terms.{term_with, equation_from};
 
 use super::gathering::gathered_block;
 use matrix::{BYTES, Block};
-use sets::Set;
+use sets::AllowedSet;
 use streams::Term;
 
 // A term's value, from the table of power sums.
@@ -26,22 +26,20 @@ pub fn term_block(l: usize, term: Term, sums: &[u8]) -> Block
 }
 
 // The sum over alpha: each term is read once.
-pub fn equation_block(set: Set, abq: &[u8], sums: &[u8], i: usize) -> Block
-    requires bounds { Bounds set × (i < set.o) }
-    requires abq_lent { AbqLent set abq.now }
+pub fn equation_block(set: AllowedSet, abq: &[u8], sums: &[u8], i: usize) -> Block
+    requires i_lt_o { i < set.o }
+    requires abq_lent { AbqLent (numbers set) abq.now }
     requires l_in_bounds { set.o * (set.l * set.l) * (set.l * set.l) ≤ length sums.now }
-    ensures { result ≡ block set.l (equation_from set abq.now sums.now i) }
+    ensures { result ≡ block set.l (equation_from (numbers set) abq.now sums.now i) }
 {
     let l = set.l;
     let count = sets::terms(set);
     let mut sum = [0; BYTES];
-    let mut alpha = 0;
-    while alpha < count {
+    for alpha in 0..count {
         let term = streams::read_term(set, abq, i, alpha);
         let value = term_block(l, term, sums);
         let more = matrix::plus(l, sum, value);
         sum = more;
-        alpha += 1;
     }
     sum
 }

@@ -16,10 +16,8 @@ fn folded(left: &[u8], l: usize, q2: &[u8]) -> Block
     ensures { result ≡ block l (folded_from l left.now q2.now) }
 {
     let mut out = [0; BYTES];
-    let mut r = 0;
-    while r < l {
+    for r in 0..l {
         rows::add_columns(&mut out, r * STRIDE, l, q2, 0, 1, l, left, r * l);
-        r += 1;
     }
     out
 }

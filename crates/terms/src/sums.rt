@@ -10,9 +10,7 @@ pub fn add_power_sum(sums: &mut [u8], at: usize, l: usize, w: &[u8], j: usize, y
 {
     let n = l * l;
     let first = j * l * n;
-    let mut row = 0;
-    while row < n {
+    for row in 0..n {
         rows::add_columns(sums, at + row * n, n, w, first + row, n, l, y, 0);
-        row += 1;
     }
 }

@@ -4,35 +4,31 @@ ghost use Rattle.packing.specs.Packing.{element};
 ghost use Rattle.scheme.specs.Verdict.{accepted};
 ghost use Rattle.checks.specs.Lent.{VerdictLent};
 ghost use Rattle.verdict.specs.Difference.{FirstDifference};
+ghost use Rattle.sets.specs.Numbers.{numbers};
 
-use sets::{LIST_ROOM, MOST_ROW, Set};
+use sets::{AllowedSet, LIST_ROOM, MOST_ROW};
 
 // The number of the first of n values that is not the target's element, or n where there is none.
 pub fn first_difference(values: &[u8], target: &[u8], n: usize) -> usize
     requires { (n ≤ length values.now) × (n ≤ 2 * length target.now) }
     ensures { FirstDifference n (λ e. get_or values.now e 0) (element target.now) result }
 {
-    let mut e = 0;
-    while e < n {
-        if values[e] != packing::element(target, e) {
-            return e;
-        }
-        e += 1;
-    }
-    n
+    (0..n)
+        .find(|e| values[*e] != packing::element(target, *e))
+        .unwrap_or(n)
 }
 
 // The public map of the key meets the target at the signature: no entry differs.
 pub fn accepts(
-    set: Set,
+    set: AllowedSet,
     public: &[u8],
     abq: &[u8],
     target: &[u8],
     key: &[u8],
     signature: &[u8],
 ) -> bool
-    requires { VerdictLent set public.now abq.now target.now key.now signature.now }
-    ensures { result ≡ accepted set public.now abq.now key.now signature.now target.now }
+    requires { VerdictLent (numbers set) public.now abq.now target.now key.now signature.now }
+    ensures { result ≡ accepted (numbers set) public.now abq.now key.now signature.now target.now }
 {
     let mut list = [0u8; LIST_ROOM];
     tables::unpack_all(&mut list, signature, sets::signature_count(set));

@@ -8,16 +8,15 @@ ghost use Rattle.verdict.specs.Promise.{Verifies};
 
 use compare::accepts;
 pub use compare::first_difference;
-use ground::Answer;
-pub use numbers::number;
-use sets::Set;
+use ground::Refusal;
+use sets::{AllowedSet, Set};
 
-// What verification answers: accepted is page 01's 0, not accepted its 1.
-#[derive(Clone, Copy)]
+// What verification says of a signature that is not refused: accepted is page 01's 0, not accepted its 1.
+// A type of its own beside Signing and Next: each has the page's names for its call.
+#[derive(Clone, Copy, Debug, PartialEq, Eq)]
 pub enum Verdict {
     Accepted,
     NotAccepted,
-    Refused(u32),
 }
 
 // Whether the public map of the key meets the target at the signature. Refusals: 10, 11, 12, 15, 16, 18, 21, the first in this order.
@@ -28,16 +27,14 @@ pub fn verify(
     target: &[u8],
     key: &[u8],
     signature: &[u8],
-) -> Verdict
+) -> Result<Verdict, Refusal>
     ensures { Verifies set public.now abq.now target.now key.now signature.now result }
 {
-    let answer = checks::check_verdict(set, public, abq, target, key, signature);
-    let Answer::Done = answer else {
-        return Verdict::Refused(ground::number(answer));
-    };
+    checks::check_verdict(set, public, abq, target, key, signature)?;
+    let set = AllowedSet::new(set)?;
     if accepts(set, public, abq, target, key, signature) {
-        Verdict::Accepted
+        Ok(Verdict::Accepted)
     } else {
-        Verdict::NotAccepted
+        Ok(Verdict::NotAccepted)
     }
 }

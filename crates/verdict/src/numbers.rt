@@ -1,16 +1,17 @@
 // The numbers of page 01 that a caller can receive from the verdict.
 ghost use Rattle.std.specs.Prelude.{◌≡◌};
-ghost use Rattle.verdict.specs.Promise.{number_of};
+ghost use Rattle.verdict.specs.Promise.{number_of_verdict};
 
 use crate::Verdict;
+use ground::PageNumber;
 
-// The page's number of a verdict.
-pub fn number(verdict: Verdict) -> u32
-    ensures { result ≡ number_of verdict }
-{
-    match verdict {
-        Verdict::Accepted => 0,
-        Verdict::NotAccepted => 1,
-        Verdict::Refused(n) => n,
+impl PageNumber for Verdict {
+    ghost page_number = { number_of_verdict };
+
+    fn page_number(self) -> u32 {
+        match self {
+            Verdict::Accepted => 0,
+            Verdict::NotAccepted => 1,
+        }
     }
 }

@@ -5,113 +5,60 @@
 use sets::Set;
 use std::io;
 
+// What a verdict is asked of.
+#[derive(Clone, Copy)]
+struct Case<'a> {
+    set: Set,
+    public: &'a [u8],
+    abq: &'a [u8],
+    target: &'a [u8],
+    key: &'a [u8],
+    signature: &'a [u8],
+}
+
 fn main(rt: HostRuntime) -> io::Result<()> {
-    let public = [0u8; 6];
-    let abq = [0u8; 36];
-    let target = [0u8; 2];
-    let key = [0u8; 2];
-    let signature = [0u8; 20];
+    let two = [0u8; 2];
+    let six = [0u8; 6];
+    let zeros = Case {
+        set: set(2),
+        public: &six,
+        abq: &[0; 36],
+        target: &two,
+        key: &two,
+        signature: &[0; 20],
+    };
     println!(rt; "| signature of zeros | verdict |\n|---|---|")?;
-    row(
-        &rt,
-        "target of zeros",
-        set(2),
-        &public,
-        &abq,
-        &target,
-        &key,
-        &signature,
-    )?;
-    row(
-        &rt,
-        "target with a 1 in its first element",
-        set(2),
-        &public,
-        &abq,
-        b"\x01\x00",
-        &key,
-        &signature,
-    )?;
-    row(
-        &rt,
-        "target with a 1 in its last element",
-        set(2),
-        &public,
-        &abq,
-        b"\x00\x10",
-        &key,
-        &signature,
-    )?;
-    row(
-        &rt,
-        "set (1,1,1)",
-        set(1),
-        &public,
-        &abq,
-        &target,
-        &key,
-        &signature,
-    )?;
-    row(
-        &rt,
-        "public of 2 bytes",
-        set(2),
-        &key,
-        &abq,
-        &target,
-        &key,
-        &signature,
-    )?;
-    row(
-        &rt,
-        "ABQ of 2 bytes",
-        set(2),
-        &public,
-        &key,
-        &target,
-        &key,
-        &signature,
-    )?;
-    row(
-        &rt,
-        "target of 6 bytes",
-        set(2),
-        &public,
-        &abq,
-        &public,
-        &key,
-        &signature,
-    )?;
-    row(
-        &rt,
-        "key of 6 bytes",
-        set(2),
-        &public,
-        &abq,
-        &target,
-        &public,
-        &signature,
-    )?;
-    row(
-        &rt,
-        "signature of 6 bytes",
-        set(2),
-        &public,
-        &abq,
-        &target,
-        &key,
-        &public,
-    )?;
-    row(
-        &rt,
-        "target and signature of 6 bytes",
-        set(2),
-        &public,
-        &abq,
-        &public,
-        &key,
-        &public,
-    )
+    row(&rt, "target of zeros", zeros)?;
+    let mut case = zeros;
+    case.target = b"\x01\x00";
+    row(&rt, "target with a 1 in its first element", case)?;
+    case.target = b"\x00\x10";
+    row(&rt, "target with a 1 in its last element", case)?;
+    case = zeros;
+    case.set = set(1);
+    row(&rt, "set (1,1,1)", case)?;
+    lengths(&rt, zeros, &two, &six)
+}
+
+// Each stream in another length.
+fn lengths<'a>(rt: &impl Print, zeros: Case<'a>, two: &'a [u8], six: &'a [u8]) -> io::Result<()> {
+    let mut case = zeros;
+    case.public = two;
+    row(rt, "public of 2 bytes", case)?;
+    case = zeros;
+    case.abq = two;
+    row(rt, "ABQ of 2 bytes", case)?;
+    case = zeros;
+    case.target = six;
+    row(rt, "target of 6 bytes", case)?;
+    case = zeros;
+    case.key = six;
+    row(rt, "key of 6 bytes", case)?;
+    case = zeros;
+    case.signature = six;
+    row(rt, "signature of 6 bytes", case)?;
+    case.target = six;
+    row(rt, "target and signature of 6 bytes", case)
 }
 
 fn set(l: usize) -> Set {
@@ -119,17 +66,15 @@ fn set(l: usize) -> Set {
 }
 
 // A case, and the page's number of its verdict.
-fn row(
-    rt: &impl Print,
-    case: &str,
-    set: Set,
-    public: &[u8],
-    abq: &[u8],
-    target: &[u8],
-    key: &[u8],
-    signature: &[u8],
-) -> io::Result<()> {
-    let answer = verdict::verify(set, public, abq, target, key, signature);
-    let number = verdict::number(answer);
-    println!(rt; "| {case} | {number} |")
+fn row(rt: &impl Print, name: &str, case: Case<'_>) -> io::Result<()> {
+    let answer = verdict::verify(
+        case.set,
+        case.public,
+        case.abq,
+        case.target,
+        case.key,
+        case.signature,
+    );
+    let number = ground::number(answer);
+    println!(rt; "| {name} | {number} |")
 }

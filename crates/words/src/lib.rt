@@ -15,16 +15,15 @@ fn multiple(row: &[u8], at: usize, n: usize, p: u8) -> u64
     ensures { result ≡ multiple_of n row.now at p }
 {
     let mut w = 0;
-    let mut c = n;
-    while 0 < c {
-        c -= 1;
+    for c in (0..n).rev() {
         let e = field::mul(p, row[at + c]);
-        w = w * 16 + (e as u64);
+        w = w * 16 + u64::from(e);
     }
     w
 }
 
 // What word q of a row's eight is a multiple by: 0, 1, 2, 3, then 0, 4, 8, 12.
+// One select: no plainer.
 fn factor(q: usize) -> u8
     requires { q < 8 }
     ensures { result ≡ factor_of q }
@@ -38,11 +37,9 @@ pub fn multiply(table: &mut [u64], src: &[u8], n: usize, count: usize)
     ensures { Multiplied n count src.now table.old table.new }
 {
     let total = count * 8;
-    let mut k = 0;
-    while k < total {
+    for k in 0..total {
         let p = factor(k % 8);
         table[k] = multiple(src, k / 8 * n, n, p);
-        k += 1;
     }
 }
 
@@ -60,12 +57,10 @@ fn looked_up(
     ensures { result ≡ lookups table.now scalars.now first stride place step count }
 {
     let mut w = 0;
-    let mut x = 0;
-    while x < count {
-        let p = scalars[place + x * step] as usize;
+    for x in 0..count {
+        let p = usize::from(scalars[place + x * step]);
         let row = (first + x * stride) * 8;
         w ^= table[row + p % 4] ^ table[row + (4 + p / 4 % 4)];
-        x += 1;
     }
     w
 }
@@ -83,10 +78,8 @@ pub fn product_word(
     ensures { result ≡ block_lookups table.now scalars.now first l place count }
 {
     let mut w = 0;
-    let mut x = 0;
-    while x < l {
+    for x in 0..l {
         w ^= looked_up(table, first + x, l, scalars, place + x, l * l, count);
-        x += 1;
     }
     w
 }
@@ -97,10 +90,8 @@ pub fn add_word(dst: &mut [u8], at: usize, n: usize, w: u64)
     ensures { Plus dst.old at n (nibble w) dst.new }
 {
     let mut rest = w;
-    let mut c = 0;
-    while c < n {
+    for c in 0..n {
         dst[at + c] ^= (rest % 16) as u8;
         rest = rest / 16;
-        c += 1;
     }
 }

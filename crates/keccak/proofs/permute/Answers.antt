@@ -1,5 +1,5 @@
 -- `keccak::permute` meets its contract: the lanes are taken from the array, permuted and given back.
--- Rests on what the three callees ensure.
+-- Rests on what `rounds` ensures and on the two conversions.
 use mathlib.Core.Path.{◌≡◌, ◌∙◌, ap}
 use lib.ListN.{length}
 use Rattle.keccak.specs.Keccak.{keccak_f}
@@ -11,13 +11,4 @@ pub returns : goal.returns
 returns c =
     let a = c.args.a in
     let long : length a ≡ 25 = search rules in
-    c.given.ensures ∙ c.rounds-s.ensures ∙ ap keccak_f (ap listed c.taken.ensures ∙ listed-lanes a long)
-
-pub taken-requires : goal.taken-requires
-taken-requires c = tt
-
-pub rounds-s-requires : goal.rounds-s-requires
-rounds-s-requires c = tt
-
-pub given-requires : goal.given-requires
-given-requires c = tt
+    c.into.ensures ∙ c.rounds.ensures ∙ ap keccak_f (ap listed c.from.ensures ∙ listed-lanes a long)

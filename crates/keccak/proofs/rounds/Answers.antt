@@ -8,7 +8,7 @@ pub loop-i-init : goal.loop-i-init
 loop-i-init c = (omega arith, rounds-none _)
 
 pub loop-i-preserved : goal.loop-i-preserved
-loop-i-preserved c = (omega arith, c.round-next.ensures ∙ ap (keccak_round _) c.loop-i.invariant.1 ∙ rounds-next _ _)
+loop-i-preserved c = (omega arith, c.round-t.ensures ∙ ap (keccak_round _) c.loop-i.invariant.1 ∙ rounds-next _ _)
 
 pub returns : goal.returns
 unfolding keccak_f

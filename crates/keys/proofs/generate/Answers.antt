@@ -1,29 +1,30 @@
--- `keys::generate` meets its contract: by the number of the first rule that is not met, either the whole key is written or nothing.
--- Rests on ground's `writes-by`, refusals' `keygen-fits` and on what `write_key` ensures.
-use mathlib.Core.Path.{sym, ap, ◌∙◌}
-use mathlib.Core.Logic.{inl, inr}
-use lib.ListN.{length}
-use Rattle.ground.specs.Answers.{answer_of}
-use Rattle.ground.specs.Outcome.{writes-by}
-use Rattle.sets.proofs.Bounds.{bounds}
+-- `keys::generate` meets its contract: where nothing is refused the set is allowed and the lengths are exact.
+-- Rests on refusals' `keygen-fits` and on what `write_key` ensures.
+use Rattle.std.proofs.Common.{◌∙◌, length, rules, sym, true≢false}
+use Rattle.ground.specs.AnswerLaws.{answer-done}
 use Rattle.refusals.specs.Fits.{keygen-fits}
 use Rattle.scheme.specs.Refusals.{keygen_refusals}
 use Rattle.keys.proofs.generate.Goals as goal
-use Rattle.keys.proofs.generate.Goals.{then-refusal-eq0, else-refusal-eq0}
+
+pub returns-in_err-keygen_refusal : goal.returns-in_err-keygen_refusal
+unfolding keygen_refusals
+returns-in_err-keygen_refusal c = search rules
+
+pub returns-in_err-set : goal.returns-in_err-set
+returns-in_err-set c =
+    let args = c.args in
+    let fits = keygen-fits args.set (length args.public.now) (length args.private.now) (length args.key.now)
+    (answer-done _ c.keygen_refusal.ensures c.in_ok-keygen_refusal.was) in
+    absurd (true≢false (sym fits.allowed ∙ c.in_err-set.ensures.refused.1))
 
 pub write_key-requires : goal.write_key-requires
 write_key-requires c =
     let args = c.args in
-    let none = sym c.keygen_refusal-refusal.ensures ∙ c.if-refusal-eq0.true in
-    let fits = keygen-fits args.set (length args.public.now) (length args.private.now) (length args.key.now) none in
-    record { bounds = bounds args.set fits.allowed; public_len = (fits.public, fits.private, fits.output) }
+    let fits = keygen-fits args.set (length args.public.now) (length args.private.now) (length args.key.now)
+    (answer-done _ c.keygen_refusal.ensures c.in_ok-keygen_refusal.was) in
+    let same = c.in_ok-set.ensures.made in
+    record { public_len = (rw same fits.public, rw same fits.private, rw same fits.output) }
 
 pub returns : goal.returns
 unfolding keygen_refusals
-returns c =
-    let number = c.keygen_refusal-refusal.ensures in
-    writes-by (c.answer_of.ensures ∙ ap answer_of number)
-    (elim c.if-refusal-eq0.branch [
-      | then-refusal-eq0 w ↦ inl (sym number ∙ w.if-refusal-eq0.true, w.key-is ∙ w.write_key.ensures)
-      | else-refusal-eq0 w ↦ inr ((λ z. w.if-refusal-eq0.false (number ∙ z)), w.key-is)
-    ])
+returns c = search rules

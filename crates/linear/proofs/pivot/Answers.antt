@@ -1,26 +1,18 @@
--- `linear::pivot` meets its contract. The invariant: no row from row k up to row p has an entry in column k (`NoPivot`).
-use mathlib.Core.Path.{sym, ◌∙◌}
-use Rattle.linear.specs.Frame.{no-pivot-next, pivot-found, pivot-nothing, within}
-use native.Mathlib.Omega.{arith}
+-- `linear::pivot` meets its contract: the find looks at the rows from row k on, one after the other, and stops at the first entry that is not zero.
+use Rattle.std.specs.Prelude.{◌≡◌, ◌≢◌, ℕ}
+use Rattle.std.proofs.Common.{rules, arith}
+use Rattle.std.proofs.iter.Serving.{serving}
+use Rattle.std.proofs.lemmas.Grind.{common_steps}
+use Rattle.std.proofs.lemmas.Iterator.{first_from_Range}
+use Rattle.linear.specs.Frame.{within}
+use Rattle.linear.specs.System.{at}
 use Rattle.linear.proofs.pivot.Goals as goal
 
-pub entry-requires : goal.entry-requires
-entry-requires c =
-    let pre = c.requires in
-    (within _ pre.0.limit pre.0.fits (omega (arith, pre.1)), omega (arith, pre.1))
-
-pub returns-then-entry-ne0 : goal.returns-then-entry-ne0
-returns-then-entry-ne0 c =
-    pivot-found
-    (record {
-      from = omega arith;
-      inside = omega arith;
-      nonzero = λ e. c.if-entry-ne0.true (c.entry.ensures ∙ e);
-    })
-
-pub loop-p-preserved : goal.loop-p-preserved
-loop-p-preserved c =
-    no-pivot-next c.loop-p.invariant (omega arith) (sym c.entry.ensures ∙ c.if-entry-ne0.false)
+pub find-requires-clause-callable : goal.find-requires-clause-callable
+find-requires-clause-callable c = grind (serving, within)
 
 pub returns : goal.returns
-returns c = pivot-nothing c.loop-p.invariant (omega arith)
+returns c =
+    let M : ℕ → ℕ = λ r. at c.args.g.now c.args.n r c.args.k in
+    let first = first_from_Range _ _ _ c.find.result (λ r. M r ≢ 0) (λ r. M r ≡ 0) c.find.ensures.ran (λ x q h. search rules) (λ x q h. search rules) in
+    grind (arith, common_steps, first)

@@ -3,35 +3,30 @@ use mathlib.Core.Path.{◌≡◌, refl}
 use mathlib.Core.List.{List}
 use Prim.Native.Nat.{ℕ, ◌<◌}
 use lib.ListN.{length}
+use Rattle.linear.specs.System.{Area}
 use Rattle.linear.specs.Frame.{Within, within}
 use Rattle.linear.specs.Progress.{step}
 use native.Mathlib.Omega.{arith}
 use Rattle.linear.proofs.reduce.Goals as goal
 
+-- row r lies within a list as long as the area
+here : {g t : List ℕ} {n r : ℕ} → Area g n → length t ≡ length g → r < n → Within t n r
+here {r = r} a e h = within r a.limit (omega (arith, a.fits, e)) h
+
 pub entry-leading-requires : goal.entry-leading-requires
-entry-leading-requires c =
-    let here : (g : List ℕ) (r : ℕ) → length g ≡ length c.args.g.now → r < c.args.n → Within g c.args.n r = λ g r e h. let pre = c.requires.0 in within r pre.limit (omega (arith, pre.fits, e)) h in
-    (here _ _ refl c.requires.1.1.inside, omega (arith, c.requires))
+entry-leading-requires c = (here c.requires.0 refl c.requires.1.1.inside, omega (arith, c.requires))
 
 pub load-old-requires : goal.load-old-requires
-load-old-requires c =
-    let here : (g : List ℕ) (r : ℕ) → length g ≡ length c.args.g.now → r < c.args.n → Within g c.args.n r = λ g r e h. let pre = c.requires.0 in within r pre.limit (omega (arith, pre.fits, e)) h in
-    here _ _ refl (omega (arith, c.requires))
+load-old-requires c = here c.requires.0 refl (omega (arith, c.requires))
 
 pub load-row-requires : goal.load-row-requires
-load-row-requires c =
-    let here : (g : List ℕ) (r : ℕ) → length g ≡ length c.args.g.now → r < c.args.n → Within g c.args.n r = λ g r e h. let pre = c.requires.0 in within r pre.limit (omega (arith, pre.fits, e)) h in
-    here _ _ refl c.requires.1.1.inside
+load-row-requires c = here c.requires.0 refl c.requires.1.1.inside
 
 pub store-requires : goal.store-requires
-store-requires c =
-    let here : (g : List ℕ) (r : ℕ) → length g ≡ length c.args.g.now → r < c.args.n → Within g c.args.n r = λ g r e h. let pre = c.requires.0 in within r pre.limit (omega (arith, pre.fits, e)) h in
-    here _ _ refl c.requires.1.1.inside
+store-requires c = here c.requires.0 refl c.requires.1.1.inside
 
 pub store-requires-2 : goal.store-requires-2
-store-requires-2 c =
-    let here : (g : List ℕ) (r : ℕ) → length g ≡ length c.args.g.now → r < c.args.n → Within g c.args.n r = λ g r e h. let pre = c.requires.0 in within r pre.limit (omega (arith, pre.fits, e)) h in
-    here _ _ c.store.auto.g (omega (arith, c.requires))
+store-requires-2 c = here c.requires.0 c.store.auto.g (omega (arith, c.requires))
 
 pub returns : goal.returns
 returns c =

@@ -1,6 +1,6 @@
 -- `packing::pack_all` meets its contract. The loop's invariant: the first j bytes are packed, and the others are as they were.
 -- Rests on ground's Segment and on what `byte_of` ensures.
-use Prim.Native.Nat.{◌-◌, ◌≤◌}
+use Prim.Native.Nat.{◌≤◌}
 use lib.ListN.{length}
 use Rattle.ground.specs.Segment.{Segment}
 use Rattle.packing.specs.Packing.{byte_of}
@@ -8,6 +8,3 @@ use Rattle.packing.proofs.pack_all.Given as goal
 
 abbrev pub invariant-loop-j : goal.invariant-loop-j
 invariant-loop-j l = (l.j ≤ length l.initial.bytes) × Segment l.initial.bytes 0 l.j (byte_of l.elements) l.bytes
-
-abbrev pub decreases-loop-j : goal.decreases-loop-j
-decreases-loop-j l = length l.initial.bytes - l.j

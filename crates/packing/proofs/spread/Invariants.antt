@@ -1,10 +1,7 @@
 -- `packing::spread` meets its contract. The loop's invariant: k bytes are spread, each into its low and its high half.
-use Prim.Native.Nat.{◌-◌, ◌≤◌}
+use Prim.Native.Nat.{◌≤◌}
 use Rattle.packing.specs.Spread.{Spread}
 use Rattle.packing.proofs.spread.Given as goal
 
 abbrev pub invariant-loop-k : goal.invariant-loop-k
 invariant-loop-k l = (l.k ≤ l.n) × Spread l.stream l.from l.k l.initial.dst l.dst
-
-abbrev pub decreases-loop-k : goal.decreases-loop-k
-decreases-loop-k l = l.n - l.k

@@ -1,6 +1,6 @@
 -- `packing::unpack_all` meets its contract. The loop's invariant: the first e elements are unpacked, and the others are as they were.
 -- Rests on ground's Segment and on what `element` ensures.
-use Prim.Native.Nat.{◌-◌, ◌≤◌}
+use Prim.Native.Nat.{◌≤◌}
 use lib.ListN.{length}
 use Rattle.ground.specs.Segment.{Segment}
 use Rattle.packing.specs.Packing.{element}
@@ -8,6 +8,3 @@ use Rattle.packing.proofs.unpack_all.Given as goal
 
 abbrev pub invariant-loop-e : goal.invariant-loop-e
 invariant-loop-e l = (l.e ≤ length l.initial.elements) × Segment l.initial.elements 0 l.e (element l.bytes) l.elements
-
-abbrev pub decreases-loop-e : goal.decreases-loop-e
-decreases-loop-e l = length l.initial.elements - l.e

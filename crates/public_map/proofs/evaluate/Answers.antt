@@ -9,19 +9,19 @@ use Rattle.public_map.proofs.evaluate.Goals as goal
 
 pub list_table-requires : goal.list_table-requires
 list_table-requires c =
-    record { bounds = c.requires.map_lent.bounds; l_in_bounds = (c.requires.l_in_bounds.0, list-powers-room c.requires.map_lent.bounds) }
+    record { l_in_bounds = (c.requires.l_in_bounds.0, list-powers-room c.requires.map_lent.bounds) }
 
 pub all_sums-requires : goal.all_sums-requires
 all_sums-requires c =
     let lent = c.requires.map_lent in
     let w = c.list_table.auto.w ∙ length-zeros list_powers_room in
-    record { bounds = lent.bounds; l_in_bounds = (sums-room lent.bounds, omega (arith, list-powers-room lent.bounds)); public_len = (lent.public-long, lent.key-long) }
+    record { l_in_bounds = (sums-room lent.bounds, omega (arith, list-powers-room lent.bounds)); public_len = (lent.public-long, lent.key-long) }
 
 pub put_values-requires : goal.put_values-requires
 put_values-requires c =
     let lent = c.requires.map_lent in
     let sums = c.all_sums.auto.sums ∙ length-zeros power_sums_room in
-    record { bounds = (lent.bounds, lent.abq-lent); l_in_bounds = (c.requires.l_in_bounds.1, omega (arith, sums-room lent.bounds)) }
+    record { abq_lent = lent.abq-lent; l_in_bounds = (c.requires.l_in_bounds.1, omega (arith, sums-room lent.bounds)) }
 
 pub returns : goal.returns
 returns c =

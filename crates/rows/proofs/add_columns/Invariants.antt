@@ -1,5 +1,5 @@
 -- `rows::add_columns` meets its contract. The loop's invariant: x rows are added, and `from` is where the next begins. Rests on the laws of Combine.
-use Prim.Native.Nat.{◌+◌, ◌*◌, ◌-◌}
+use Prim.Native.Nat.{◌+◌, ◌*◌}
 use lib.ListN.{get_or}
 use Rattle.rows.specs.Combine.{Combining}
 use Rattle.rows.proofs.add_columns.Given as goal
@@ -7,6 +7,3 @@ use Rattle.rows.proofs.add_columns.Given as goal
 abbrev pub invariant-loop-x : goal.invariant-loop-x
 invariant-loop-x l =
     Combining l.initial.dst l.at l.n (λ y. get_or l.scalars (l.place + y * l.stride) 0) l.src l.first l.count l.x l.from l.dst
-
-abbrev pub decreases-loop-x : goal.decreases-loop-x
-decreases-loop-x l = l.count - l.x

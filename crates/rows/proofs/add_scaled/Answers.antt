@@ -4,11 +4,8 @@ use native.Mathlib.Omega.{arith}
 use borrow.Author.Rules.{rules}
 use Rattle.field.specs.Field.{add}
 use Rattle.field.specs.Laws.{mul-chosen}
-use Rattle.rows.specs.Plus.{plus_none, plus-next, plus-end}
+use Rattle.rows.specs.Plus.{plus-next}
 use Rattle.rows.proofs.add_scaled.Goals as goal
-
-pub loop-i-init : goal.loop-i-init
-loop-i-init c = (search rules, plus_none)
 
 pub loop-i-preserved : goal.loop-i-preserved
 unfolding add
@@ -18,6 +15,3 @@ loop-i-preserved c = (
       (c.chosen.ensures
       ∙ mul-chosen c.args.s _ _ _ _ _ refl c.twice-s2.ensures c.twice-s4.ensures c.twice-s8.ensures),
 )
-
-pub returns : goal.returns
-returns c = plus-end c.loop-i.invariant.1 c.loop-i.invariant.0 c.loop-i-test.false

@@ -1,6 +1,6 @@
 -- `shake::absorb` meets its contract. Invariant: to feed the rest of the input leads where feeding the whole of it led.
 -- Rests on the laws of feeding a byte, and on what `add_byte` and `permute` ensure.
-use mathlib.Core.Path.{◌≡◌, refl, sym, ap, ap₂, ◌∙◌}
+use mathlib.Core.Path.{◌≡◌, sym, ap, ap₂, ◌∙◌}
 use Rattle.keccak.specs.Keccak.{keccak_f}
 use Prim.Native.Nat.{◌+◌, ◌<◌}
 use lib.ListN.{get_or, drop}
@@ -10,26 +10,18 @@ use native.Mathlib.Omega.{arith}
 use Rattle.shake.proofs.absorb.Goals as goal
 use Rattle.shake.proofs.absorb.Goals.{then-at-rate, else-at-rate}
 
-pub loop-i-init : goal.loop-i-init
-loop-i-init c = (omega arith, (omega arith, refl))
-
 -- a turn feeds one byte
-pub loop-i-preserved : goal.loop-i-preserved
+pub loop-byte-preserved : goal.loop-byte-preserved
 unfolding fed_byte
-loop-i-preserved c =
-    let stepped : sponge-at c.if-at-rate.lanes c.if-at-rate.at ≡ fed_byte c.args.rate (sponge-at c.loop-i.lanes c.loop-i.at) (get_or c.args.input.now c.loop-i.i 0) =
+loop-byte-preserved c =
+    let stepped : sponge-at c.if-at-rate.lanes c.if-at-rate.at ≡ fed_byte c.args.rate (sponge-at c.loop-byte.lanes c.loop-byte.at) (get_or c.args.input.now c.loop-byte.byte-index 0) =
     elim c.if-at-rate.branch [
-      | then-at-rate w ↦ ap₂ sponge-at (w.lanes-is ∙ w.permute-next.ensures ∙ ap keccak_f c.add_byte.ensures) w.at-is ∙ sym (turned-full _ _ _ w.if-at-rate.true)
+      | then-at-rate w ↦ ap₂ sponge-at (w.lanes-is ∙ w.permute-lanes.ensures ∙ ap keccak_f c.add_byte.ensures) w.at-is ∙ sym (turned-full _ _ _ w.if-at-rate.true)
       | else-at-rate w ↦ ap₂ sponge-at (w.lanes-is ∙ c.add_byte.ensures) w.at-is ∙ sym (turned-within _ _ _ w.if-at-rate.false)
     ] in
-    let inside : c.if-at-rate.at < c.args.rate = elim c.if-at-rate.branch [ then-at-rate w ↦ omega arith | else-at-rate w ↦ omega arith ] in (
-      omega arith,
-      (
-        inside,
-        ap (λ s. fed c.args.rate s (drop (c.loop-i.i + 1) c.args.input.now)) stepped ∙ fed-next _ _ _ _ c.loop-i-test.true ∙ c.loop-i.invariant.1.1,
-      ),
-    )
+    let inside : c.if-at-rate.at < c.args.rate = elim c.if-at-rate.branch [ then-at-rate w ↦ omega arith | else-at-rate w ↦ omega arith ] in
+    (inside, ap (λ s. fed c.args.rate s (drop (c.loop-byte.byte-index + 1) c.args.input.now)) stepped ∙ fed-next _ _ _ _ c.loop-byte-test.true ∙ c.loop-byte.invariant.1)
 
 pub returns : goal.returns
 returns c =
-    record { sponge = sym (fed-none _ _ _ _ c.loop-i-test.false) ∙ c.loop-i.invariant.1.1; inside = c.loop-i.invariant.1.0 }
+    record { sponge = sym (fed-none _ _ _ _ c.loop-byte-test.false) ∙ c.loop-byte.invariant.1; inside = c.loop-byte.invariant.0 }

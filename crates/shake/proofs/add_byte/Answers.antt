@@ -12,4 +12,4 @@ unfolding add_byte
 returns c =
     let a = c.args in
     let shifted : a.b * 2 ^ (8 * (a.p % 8)) % 2 ^ 64 ≡ a.b * 2 ^ (8 * (a.p % 8)) = shl_exact {a = a.b} 8 (8 * (a.p % 8)) 64 (search rules) (omega arith) in
-    rw shifted
+    rw (c.from.ensures, shifted)

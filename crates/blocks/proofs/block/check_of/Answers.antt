@@ -1,5 +1,5 @@
 -- `blocks::check_of` meets its contract: the sum of the place and the first k words, modulo 2^32. Rests on Steps.
-use Rattle.std.proofs.Common.{◌≡◌, ◌+◌, ◌%◌, ◌^◌, ap, ◌∙◌, arith}
+use Rattle.std.proofs.Common.{◌≡◌, refl, ◌+◌, ◌%◌, ◌^◌, ap, ◌∙◌, arith}
 use Rattle.blocks.specs.Block.{sum_words, check_of}
 use Rattle.blocks.specs.Steps.{check-more}
 use Rattle.blocks.proofs.block.check_of.Goals as goal
@@ -9,7 +9,7 @@ unfolding sum_words
 loop-k-init c = (omega arith, omega arith)
 
 pub loop-k-preserved : goal.loop-k-preserved
-loop-k-preserved c = (omega arith, check-more _ c.loop-k.k _ c.loop-k.invariant.1 c.word_at.ensures c.wrapping_add_u32-sum.ensures.value)
+loop-k-preserved c = (omega arith, check-more _ c.loop-k.k _ c.loop-k.invariant.1 c.word_at-sum.ensures refl)
 
 pub returns : goal.returns
 unfolding check_of

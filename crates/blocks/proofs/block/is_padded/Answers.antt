@@ -1,20 +1,16 @@
--- `blocks::is_padded` meets its contract: the first k bytes of the padding are zero. Rests on Steps.
-use Rattle.std.proofs.Common.{refl, arith, eq-eqb}
-use Rattle.ground.specs.Tests.{every_more}
-use Rattle.blocks.specs.Block.{zero_at}
-use Rattle.blocks.specs.Steps.{padded-fails, padded-holds}
+-- `blocks::is_padded` meets its contract: the test of each byte of the part, by Steps.
+use Rattle.std.proofs.Common.{◌≡◌, ◌+◌, ◌-◌, ◌∙◌, ap, eqb, take, drop, arith, rules, tests}
+use Rattle.std.specs.List.{list_all}
+use Rattle.std.proofs.lemmas.Iterator.{YieldsList-from_slice}
+use Rattle.std.proofs.lemmas.Iterator.Search.{all_from_yields_List}
+use Rattle.blocks.specs.Steps.{all-every}
 use Rattle.blocks.proofs.block.is_padded.Goals as goal
 
-pub loop-k-init : goal.loop-k-init
-loop-k-init c = (omega arith, refl)
-
-pub returns-then-block-size-ne0 : goal.returns-then-block-size-ne0
-returns-then-block-size-ne0 c =
-    padded-fails _ c.loop-k.k c.size_of-size.ensures (omega arith) c.if-block-size-ne0.true
-
-pub loop-k-preserved : goal.loop-k-preserved
-loop-k-preserved c =
-    (omega arith, every_more c.loop-k.k (zero_at c.args.block.now c.size_of-size.result) c.loop-k.invariant.1 (eq-eqb _ _ c.if-block-size-ne0.false))
-
 pub returns : goal.returns
-returns c = padded-holds _ c.loop-k.k c.size_of-size.ensures (omega arith) c.loop-k.invariant.1
+returns c =
+    let s = c.args.block.now in
+    let from = 8 + c.args.size in
+    let n : 508 - from ≡ 500 - c.args.size = omega arith in
+    all_from_yields_List (λ x. eqb x 0) _ _ c.all.result c.all.ensures.ran (YieldsList-from_slice (take (508 - from) (drop from s)) cc) (λ x b q k. search (rules, tests))
+    ∙ ap (λ m. list_all (λ x. eqb x 0) (take m (drop from s))) n
+    ∙ all-every (λ x. eqb x 0) s from (500 - c.args.size) (omega arith)

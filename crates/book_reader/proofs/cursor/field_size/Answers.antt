@@ -2,8 +2,8 @@
 use Rattle.book_reader.specs.Told.{size-at, size_none}
 use Rattle.book_reader.proofs.cursor.field_size.Goals as goal
 
-pub returns-in-Field : goal.returns-in-Field
-returns-in-Field c = size-at _ _ c.field_at-next.ensures c.in-Field.is
+pub returns-in-Some : goal.returns-in-Some
+returns-in-Some c = size-at _ _ c.field_at.ensures c.in-Some.is
 
-pub returns-in-End : goal.returns-in-End
-returns-in-End c = size_none _ _ c.field_at-next.ensures c.in-End.is
+pub returns-in-None : goal.returns-in-None
+returns-in-None c = size_none _ _ c.field_at.ensures c.in-None.is

@@ -15,6 +15,6 @@ returns c =
     let at = c.args in
     let size = c.size_of.ensures ∙ ap size_of c.block_at.ensures.is in
     record {
-      contents = part_cut at.book.now at.b c.if-n-b.false _ _ size c.at_most.ensures.1;
+      contents = part_cut at.book.now at.b c.if-n-b.false _ _ size c.min.ensures;
       place = (refl, omega (arith, a-start at.book.now at.b c.if-n-b.false));
     }

@@ -3,6 +3,9 @@ use Prim.Native.Nat.{◌/◌, ◌≤◌}
 use lib.ListN.{length}
 use Rattle.books.specs.Book.{whole_says}
 use Rattle.book_reader.specs.Passed.{passed_none, passed-next, passed-stop, passed-end}
+use Rattle.std.proofs.Common.{sym, ap, ◌∙◌}
+use Rattle.ground.specs.Answers.{number_of}
+use Rattle.ground.specs.AnswerLaws.{code-some}
 use borrow.Author.Rules.{rules}
 use native.Mathlib.Omega.{arith}
 use Rattle.book_reader.proofs.reader.first_fault.Goals as goal
@@ -15,13 +18,14 @@ overflow_cast-b c =
     let few : length c.args.book.now / 512 ≤ 65536 = (whole_says c.args.book.now c.requires).1 in
     omega (arith, few)
 
-pub returns-then-fault-ne0 : goal.returns-then-fault-ne0
-returns-then-fault-ne0 c =
-    passed-stop c.loop-b.invariant (search rules) c.block_at-block.ensures c.fault_of-fault.ensures c.if-fault-ne0.true
+pub returns-in_err-fault_of : goal.returns-in_err-fault_of
+returns-in_err-fault_of c =
+    let refused = sym (ap number_of c.in_err-fault_of.was) ∙ c.fault_of.ensures in
+    rw (← passed-stop c.loop-b.invariant (search rules) c.block_at-block.ensures refused (code-some _)) (search rules)
 
 pub loop-b-preserved : goal.loop-b-preserved
 loop-b-preserved c =
-    passed-next c.loop-b.invariant (search rules) c.block_at-block.ensures c.fault_of-fault.ensures c.if-fault-ne0.false c.head_of-before.ensures
+    passed-next c.loop-b.invariant (search rules) c.block_at-block.ensures c.fault_of.ensures (ap number_of c.in_ok-fault_of.was) c.head_of-before.ensures
 
 pub returns : goal.returns
 returns c = passed-end c.loop-b.invariant (search rules)

@@ -1,10 +1,6 @@
 -- `book_reader::first_fault` meets its contract: the blocks before b are passed, and `before` is the head of the last of them. Rests on Passed.
-use Prim.Native.Nat.{◌-◌}
 use Rattle.book_reader.specs.Passed.{Passed}
 use Rattle.book_reader.proofs.reader.first_fault.Given as goal
 
 abbrev pub invariant-loop-b : goal.invariant-loop-b
 invariant-loop-b l = Passed l.book l.n l.b l.before
-
-abbrev pub decreases-loop-b : goal.decreases-loop-b
-decreases-loop-b l = l.n - l.b

@@ -1,13 +1,7 @@
 -- `book_writer::write_field` meets its contract: the first n parts are written, and the others are still to come. Rests on books' Going.
-use Rattle.books.specs.Going.{field-none, field_next, field_end}
+use Rattle.books.specs.Going.{field_next, field_end}
 use native.Mathlib.Omega.{arith}
 use Rattle.book_writer.proofs.parts.write_field.Goals as goal
-
-pub loop-n-init : goal.loop-n-init
-loop-n-init c = (omega arith, field-none _ _ _ _)
-
-pub write_part-requires : goal.write_part-requires
-write_part-requires c = (omega arith, (omega (arith, c.loop-n.invariant.1.long), omega arith))
 
 pub loop-n-preserved : goal.loop-n-preserved
 loop-n-preserved c =
@@ -15,4 +9,4 @@ loop-n-preserved c =
 
 pub returns : goal.returns
 returns c =
-    (omega arith, field_end _ _ _ c.loop-n.n _ c.loop-n.invariant.1 (omega arith) (omega arith))
+    (omega arith, field_end _ _ _ c.loop-n.n _ (rw c.parts_in-count.ensures at c.loop-n.invariant.1) (omega arith) (omega arith))

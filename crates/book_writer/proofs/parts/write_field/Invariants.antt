@@ -6,6 +6,3 @@ use Rattle.book_writer.proofs.parts.write_field.Given as goal
 
 abbrev pub invariant-loop-n : goal.invariant-loop-n
 invariant-loop-n l = (l.n ≤ l.count) × Going l.initial.out l.b (cut_n l.count l.exercise l.kind 0 l.bytes) l.out (l.b + l.n) (cut_n (l.count - l.n) l.exercise l.kind l.n (drop (500 * l.n) l.bytes))
-
-abbrev pub decreases-loop-n : goal.decreases-loop-n
-decreases-loop-n l = l.count - l.n

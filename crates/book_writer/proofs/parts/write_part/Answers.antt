@@ -4,4 +4,5 @@ use Rattle.book_writer.proofs.parts.write_part.Goals as goal
 
 pub returns : goal.returns
 returns c =
-    part-pasted _ _ c.least-end.result _ c.least-end.ensures c.requires.1.1 c.requires.1.0 c.fill.ensures
+    let n = c.from-at.ensures in
+    part-pasted _ c.args.head c.min-end.result c.args.bytes.now (rw n at c.min-end.ensures) c.requires.1.1 c.requires.1.0 (rw n at c.fill.ensures)

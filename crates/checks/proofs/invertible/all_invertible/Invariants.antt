@@ -4,7 +4,4 @@ use Rattle.checks.specs.Passing.{Passing}
 use Rattle.checks.proofs.invertible.all_invertible.Given as goal
 
 abbrev pub invariant-loop-b : goal.invariant-loop-b
-invariant-loop-b l = Passing l.l l.abq l.count l.b
-
-abbrev pub decreases-loop-b : goal.decreases-loop-b
-decreases-loop-b l = l.count - l.b
+invariant-loop-b l = Passing l.set.l l.abq l.count l.b

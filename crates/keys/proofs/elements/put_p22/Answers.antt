@@ -5,103 +5,101 @@ use Rattle.sets.specs.Bounds.{Products}
 use Rattle.keys.specs.KeyPlaces.{PutTurn, put-turn, key-within}
 use Rattle.keys.specs.Elements.{row_place, putting-none, putting-next, putting-end}
 use native.Mathlib.Omega.{arith}
+use Rattle.sets.specs.Numbers.{numbers}
+use Rattle.sets.proofs.Bounds.{bounds_of}
 use Rattle.keys.proofs.elements.put_p22.Goals as goal
 
 pub overflow_mul-count : goal.overflow_mul-count
-overflow_mul-count c = omega (arith, c.requires.bounds.products.oo)
+overflow_mul-count c = omega (arith, (bounds_of c.args.set).products.oo)
 
 pub overflow_mul-count-2 : goal.overflow_mul-count-2
-overflow_mul-count-2 c = omega (arith, c.requires.bounds.products.ool)
+overflow_mul-count-2 c = omega (arith, (bounds_of c.args.set).products.ool)
 
 pub loop-q-init : goal.loop-q-init
 loop-q-init c = putting-none
 
 pub nonzero_rem-r : goal.nonzero_rem-r
 nonzero_rem-r c =
-    let turn : PutTurn c.args.set c.args.i c.loop-q.q = put-turn c.requires.bounds c.requires.i_lt_o.0 c.loop-q-test.true in
+    let turn : PutTurn (numbers c.args.set) c.args.i c.loop-q.q = put-turn (bounds_of c.args.set) c.requires.i_lt_o.0 c.loop-q-test.true in
     omega (arith, turn)
 
 pub nonzero_div-b : goal.nonzero_div-b
 nonzero_div-b c =
-    let turn : PutTurn c.args.set c.args.i c.loop-q.q = put-turn c.requires.bounds c.requires.i_lt_o.0 c.loop-q-test.true in
+    let turn : PutTurn (numbers c.args.set) c.args.i c.loop-q.q = put-turn (bounds_of c.args.set) c.requires.i_lt_o.0 c.loop-q-test.true in
     omega (arith, turn)
 
 pub nonzero_rem-b : goal.nonzero_rem-b
 nonzero_rem-b c =
-    let turn : PutTurn c.args.set c.args.i c.loop-q.q = put-turn c.requires.bounds c.requires.i_lt_o.0 c.loop-q-test.true in
+    let turn : PutTurn (numbers c.args.set) c.args.i c.loop-q.q = put-turn (bounds_of c.args.set) c.requires.i_lt_o.0 c.loop-q-test.true in
     omega (arith, turn)
 
 pub nonzero_div-j : goal.nonzero_div-j
 nonzero_div-j c =
-    let turn : PutTurn c.args.set c.args.i c.loop-q.q = put-turn c.requires.bounds c.requires.i_lt_o.0 c.loop-q-test.true in
+    let turn : PutTurn (numbers c.args.set) c.args.i c.loop-q.q = put-turn (bounds_of c.args.set) c.requires.i_lt_o.0 c.loop-q-test.true in
     omega (arith, turn)
 
 pub nonzero_div-j-in-loop-q : goal.nonzero_div-j-in-loop-q
 nonzero_div-j-in-loop-q c =
-    let turn : PutTurn c.args.set c.args.i c.loop-q.q = put-turn c.requires.bounds c.requires.i_lt_o.0 c.loop-q-test.true in
+    let turn : PutTurn (numbers c.args.set) c.args.i c.loop-q.q = put-turn (bounds_of c.args.set) c.requires.i_lt_o.0 c.loop-q-test.true in
     omega (arith, turn)
 
 pub overflow_mul-i : goal.overflow_mul-i
 overflow_mul-i c =
-    let turn : PutTurn c.args.set c.args.i c.loop-q.q = put-turn c.requires.bounds c.requires.i_lt_o.0 c.loop-q-test.true in
-    let products : Products c.args.set = c.requires.bounds.products in
+    let turn : PutTurn (numbers c.args.set) c.args.i c.loop-q.q = put-turn (bounds_of c.args.set) c.requires.i_lt_o.0 c.loop-q-test.true in
+    let products : Products (numbers c.args.set) = (bounds_of c.args.set).products in
     omega (arith, turn.number, products.oool)
 
 pub overflow_add-i : goal.overflow_add-i
 overflow_add-i c =
-    let turn : PutTurn c.args.set c.args.i c.loop-q.q = put-turn c.requires.bounds c.requires.i_lt_o.0 c.loop-q-test.true in
-    let products : Products c.args.set = c.requires.bounds.products in
+    let turn : PutTurn (numbers c.args.set) c.args.i c.loop-q.q = put-turn (bounds_of c.args.set) c.requires.i_lt_o.0 c.loop-q-test.true in
+    let products : Products (numbers c.args.set) = (bounds_of c.args.set).products in
     omega (arith, turn.number, products.oool)
 
 pub overflow_mul-i-in-loop-q : goal.overflow_mul-i-in-loop-q
 overflow_mul-i-in-loop-q c =
-    let turn : PutTurn c.args.set c.args.i c.loop-q.q = put-turn c.requires.bounds c.requires.i_lt_o.0 c.loop-q-test.true in
-    let products : Products c.args.set = c.requires.bounds.products in
+    let turn : PutTurn (numbers c.args.set) c.args.i c.loop-q.q = put-turn (bounds_of c.args.set) c.requires.i_lt_o.0 c.loop-q-test.true in
+    let products : Products (numbers c.args.set) = (bounds_of c.args.set).products in
     omega (arith, turn.from, products.oooll)
 
 pub overflow_mul-j : goal.overflow_mul-j
 overflow_mul-j c =
-    let turn : PutTurn c.args.set c.args.i c.loop-q.q = put-turn c.requires.bounds c.requires.i_lt_o.0 c.loop-q-test.true in
-    let products : Products c.args.set = c.requires.bounds.products in
+    let turn : PutTurn (numbers c.args.set) c.args.i c.loop-q.q = put-turn (bounds_of c.args.set) c.requires.i_lt_o.0 c.loop-q-test.true in
+    let products : Products (numbers c.args.set) = (bounds_of c.args.set).products in
     omega (arith, turn.row, products.ol)
 
 pub overflow_add-j : goal.overflow_add-j
 overflow_add-j c =
-    let turn : PutTurn c.args.set c.args.i c.loop-q.q = put-turn c.requires.bounds c.requires.i_lt_o.0 c.loop-q-test.true in
-    let products : Products c.args.set = c.requires.bounds.products in
+    let turn : PutTurn (numbers c.args.set) c.args.i c.loop-q.q = put-turn (bounds_of c.args.set) c.requires.i_lt_o.0 c.loop-q-test.true in
+    let products : Products (numbers c.args.set) = (bounds_of c.args.set).products in
     omega (arith, turn.row, products.ol)
 
 pub overflow_mul-o : goal.overflow_mul-o
 overflow_mul-o c =
-    let products : Products c.args.set = c.requires.bounds.products in
+    let products : Products (numbers c.args.set) = (bounds_of c.args.set).products in
     omega (arith, products.ol)
 
 pub overflow_mul-j-in-loop-q : goal.overflow_mul-j-in-loop-q
 overflow_mul-j-in-loop-q c =
-    let turn : PutTurn c.args.set c.args.i c.loop-q.q = put-turn c.requires.bounds c.requires.i_lt_o.0 c.loop-q-test.true in
-    let products : Products c.args.set = c.requires.bounds.products in
+    let turn : PutTurn (numbers c.args.set) c.args.i c.loop-q.q = put-turn (bounds_of c.args.set) c.requires.i_lt_o.0 c.loop-q-test.true in
+    let products : Products (numbers c.args.set) = (bounds_of c.args.set).products in
     omega (arith, turn.place, products.ooll)
 
 pub overflow_mul-b : goal.overflow_mul-b
 overflow_mul-b c =
-    let turn : PutTurn c.args.set c.args.i c.loop-q.q = put-turn c.requires.bounds c.requires.i_lt_o.0 c.loop-q-test.true in
-    let products : Products c.args.set = c.requires.bounds.products in
+    let turn : PutTurn (numbers c.args.set) c.args.i c.loop-q.q = put-turn (bounds_of c.args.set) c.requires.i_lt_o.0 c.loop-q-test.true in
+    let products : Products (numbers c.args.set) = (bounds_of c.args.set).products in
     omega (arith, turn.block, products.ol)
 
 pub overflow_add-j-in-loop-q : goal.overflow_add-j-in-loop-q
 overflow_add-j-in-loop-q c =
-    let turn : PutTurn c.args.set c.args.i c.loop-q.q = put-turn c.requires.bounds c.requires.i_lt_o.0 c.loop-q-test.true in
-    let products : Products c.args.set = c.requires.bounds.products in
+    let turn : PutTurn (numbers c.args.set) c.args.i c.loop-q.q = put-turn (bounds_of c.args.set) c.requires.i_lt_o.0 c.loop-q-test.true in
+    let products : Products (numbers c.args.set) = (bounds_of c.args.set).products in
     omega (arith, turn.place, turn.block, products.ooll)
 
 pub put_row-requires : goal.put_row-requires
 put_row-requires c =
-    let turn : PutTurn c.args.set c.args.i c.loop-q.q = put-turn c.requires.bounds c.requires.i_lt_o.0 c.loop-q-test.true in
-    let loop = c.loop-q in record { n_bound = omega (arith, turn, key-within c.requires.bounds c.requires.i_lt_o.1, c.requires.i_lt_o, loop.invariant.so_far.long); by_index = λ x h. c.requires.by_index (row_place c.args.set.o c.args.set.l loop.q + x) }
-
-pub overflow_add-q : goal.overflow_add-q
-overflow_add-q c =
-    omega (arith, c.loop-q-test.true, c.requires.bounds.products.ool)
+    let turn : PutTurn (numbers c.args.set) c.args.i c.loop-q.q = put-turn (bounds_of c.args.set) c.requires.i_lt_o.0 c.loop-q-test.true in
+    let loop = c.loop-q in record { n_bound = omega (arith, turn, key-within (bounds_of c.args.set) c.requires.i_lt_o.1, c.requires.i_lt_o, loop.invariant.so_far.long); by_index = λ x h. c.requires.by_index (row_place c.args.set.o c.args.set.l loop.q + x) }
 
 pub loop-q-preserved : goal.loop-q-preserved
 loop-q-preserved c =

@@ -5,6 +5,3 @@ use Rattle.keys.proofs.elements.put_p22.Given as goal
 
 abbrev pub invariant-loop-q : goal.invariant-loop-q
 invariant-loop-q l = Putting l.o l.l l.initial.key l.i l.k l.q l.key
-
-abbrev pub decreases-loop-q : goal.decreases-loop-q
-decreases-loop-q l = l.count - l.q

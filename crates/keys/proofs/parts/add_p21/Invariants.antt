@@ -1,11 +1,9 @@
 -- `keys::parts::add_p21` meets its contract. The invariant: the first y rows have gained theirs. Rests on Parts, Places and tables' Table.
-use Prim.Native.Nat.{◌*◌, ◌-◌}
+use Prim.Native.Nat.{◌*◌}
 use Rattle.tables.specs.Table.{Filling}
 use Rattle.keys.specs.Parts.{p21_row}
+use Rattle.sets.specs.Numbers.{numbers}
 use Rattle.keys.proofs.parts.add_p21.Given as goal
 
 abbrev pub invariant-loop-y : goal.invariant-loop-y
-invariant-loop-y l = Filling l.initial.f (l.set.v * l.set.l) l.count (p21_row l.set l.public l.i) l.y l.f
-
-abbrev pub decreases-loop-y : goal.decreases-loop-y
-decreases-loop-y l = l.count - l.y
+invariant-loop-y l = Filling l.initial.f (l.set.v * l.set.l) l.count (p21_row (numbers l.set) l.public l.i) l.y l.f

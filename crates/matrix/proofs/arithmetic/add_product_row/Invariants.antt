@@ -1,5 +1,5 @@
 -- `matrix::arithmetic::add_product_row` meets its contract. The invariant: the row has gained the first y terms of each entry. Rests on BlockRows.
-use Prim.Native.Nat.{◌*◌, ◌-◌, ◌≤◌}
+use Prim.Native.Nat.{◌*◌, ◌≤◌}
 use Rattle.rows.specs.Plus.{Plus}
 use Rattle.matrix.specs.Matrix.{mul_m}
 use Rattle.matrix.specs.Block.{view, stride}
@@ -7,6 +7,3 @@ use Rattle.matrix.proofs.arithmetic.add_product_row.Given as goal
 
 abbrev pub invariant-loop-y : goal.invariant-loop-y
 invariant-loop-y l = (l.y ≤ l.l) × Plus l.initial.out (l.r * stride) l.l (mul_m l.y (view l.a) (view l.b) l.r) l.out
-
-abbrev pub decreases-loop-y : goal.decreases-loop-y
-decreases-loop-y l = l.l - l.y

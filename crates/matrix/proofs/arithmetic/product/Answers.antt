@@ -1,15 +1,11 @@
 -- `matrix::arithmetic::product` meets its contract. The invariant: the first r rows have gained theirs. Rests on BlockRows.
-use Rattle.rows.specs.Zero.{length-zeros}
 use Rattle.matrix.specs.Matrix.{mul_m}
-use Rattle.matrix.specs.Block.{view, block_bytes}
-use Rattle.rows.specs.PlusRows.{rows_none, rows_next}
+use Rattle.matrix.specs.Block.{view}
+use Rattle.rows.specs.PlusRows.{rows_next}
 use Rattle.rows.specs.RowsJoin.{rows_end}
 use Rattle.matrix.specs.BlockRows.{block-row, block-filled}
 use native.Mathlib.Omega.{arith}
 use Rattle.matrix.proofs.arithmetic.product.Goals as goal
-
-pub loop-r-init : goal.loop-r-init
-loop-r-init c = (length-zeros block_bytes, (omega arith, rows_none))
 
 pub loop-r-preserved : goal.loop-r-preserved
 loop-r-preserved c =

@@ -1,6 +1,6 @@
 -- `matrix::arithmetic::product` meets its contract. The invariant: the first r rows have gained theirs. Rests on BlockRows.
 use mathlib.Core.Path.{◌≡◌}
-use Prim.Native.Nat.{◌-◌, ◌≤◌}
+use Prim.Native.Nat.{◌≤◌}
 use lib.ListN.{length}
 use Rattle.rows.specs.Zero.{zeros}
 use Rattle.matrix.specs.Matrix.{mul_m}
@@ -11,6 +11,3 @@ use Rattle.matrix.proofs.arithmetic.product.Given as goal
 
 abbrev pub invariant-loop-r : goal.invariant-loop-r
 invariant-loop-r l = (length l.out ≡ block_bytes) × ((l.r ≤ l.l) × PlusRows (zeros block_bytes) 0 l.r stride (block_row l.l (mul_m l.l (view l.a) (view l.b))) l.out)
-
-abbrev pub decreases-loop-r : goal.decreases-loop-r
-decreases-loop-r l = l.l - l.r

@@ -1,14 +1,14 @@
 -- `matrix::search` meets its contract. The invariant: the original is m still, what is tried is m + a·S, and no earlier shift served (`Searching`).
 use mathlib.Core.Path.{refl, sym, ◌∙◌}
 use Rattle.matrix.specs.Searching.{searching-stays, searching-start, next-searching, searching-found, searching-none}
-use Rattle.matrix.specs.PromiseLaws.{makes-done, makes-refused}
+use Rattle.ground.specs.AnswerLaws.{gives-value, gives-refusal}
 use native.Mathlib.Omega.{arith}
 use Rattle.matrix.proofs.invertible.search.Goals as goal
 
 pub returns-then-determinant-ne0 : goal.returns-then-determinant-ne0
 returns-then-determinant-ne0 c =
-    let done = searching-stays _ _ (λ e. c.if-determinant-ne0.true (c.determinant.ensures ∙ e)) c.cut-same.ensures in
-    makes-done (rw done.0) refl done.1
+    let done = searching-stays _ _ (λ e. c.if-determinant-ne0.true (c.determinant.ensures ∙ e)) c.cut.ensures in
+    rw (done.0, ← done.1) (gives-value refl)
 
 pub loop-trial-init : goal.loop-trial-init
 loop-trial-init c =
@@ -18,7 +18,7 @@ pub returns-then-trial-eq15 : goal.returns-then-trial-eq15
 returns-then-trial-eq15 c =
     let zero = sym c.determinant-in-loop-trial.ensures ∙ c.if-determinant-ne0-2.false in
     let none = searching-none c.requires c.loop-trial.invariant.1 zero c.if-trial-eq15.true in
-    makes-refused (rw none (omega arith)) (rw none c.refused.ensures.0) c.refused.ensures.1
+    rw none (gives-refusal _ refl)
 
 pub next_trial-next-requires : goal.next_trial-next-requires
 next_trial-next-requires c =
@@ -40,4 +40,4 @@ loop-trial-preserved c =
 pub returns : goal.returns
 returns c =
     let done = searching-found c.requires c.loop-trial.invariant.1 (λ e. c.if-determinant-ne0-2.true (c.determinant-in-loop-trial.ensures ∙ e)) in
-    makes-done (rw done.0) refl done.1
+    rw (done.0, ← done.1) (gives-value refl)

@@ -1,24 +1,15 @@
--- `matrix::entries_allowed` meets its contract. The invariant: the cells so far are elements.
--- At the end every entry is one (`cells-pass`), and one that is not shows early (`cells-fail`).
-use mathlib.Core.Path.{◌≡◌, sym}
-use native.Mathlib.Omega.{arith}
-use borrow.Author.Count.{below_none, below_more}
-use Rattle.matrix.specs.Block.{view, cell, cell-kept}
-use Rattle.matrix.specs.LimitLaws.{cells-pass, cells-fail}
+-- `matrix::entries_allowed` meets its contract: that all rows below l pass, in std's words, is the page's test. Rests on Tests.
+use Rattle.std.proofs.Common.{rules, arith, tests, ◌∙◌, refl, ltb}
+use Rattle.std.proofs.lemmas.Iterator.{YieldsList-from_range}
+use Rattle.std.proofs.lemmas.Iterator.Search.{all_from_yields_List}
+use Rattle.ground.specs.Tests.{every}
+use Rattle.matrix.specs.Block.{view}
+use Rattle.matrix.specs.Limits.{entries_allowed}
+use Rattle.matrix.proofs.Tests.{all-below}
 use Rattle.matrix.proofs.refusals.entries_allowed.Goals as goal
 
-pub loop-e-init : goal.loop-e-init
-loop-e-init c = (omega arith, below_none _)
-
-pub returns-then-within-gt15 : goal.returns-then-within-gt15
-returns-then-within-gt15 c =
-    let kept : c.within.result ≡ cell c.args.l (view c.args.m) c.loop-e.e = cell-kept _ _ _ c.within.ensures (λ hr hc. c.entry.ensures) in
-    sym (cells-fail _ _ c.loop-e.e (omega (arith, kept)))
-
-pub loop-e-preserved : goal.loop-e-preserved
-loop-e-preserved c =
-    let kept : c.within.result ≡ cell c.args.l (view c.args.m) c.loop-e.e = cell-kept _ _ _ c.within.ensures (λ hr hc. c.entry.ensures) in
-    (omega arith, below_more _ _ c.loop-e.invariant.1 (omega (arith, kept)))
-
 pub returns : goal.returns
-returns c = sym (cells-pass _ _ (omega arith) (λ e h. c.loop-e.invariant.1 e (omega arith)))
+unfolding entries_allowed
+returns c =
+    all_from_yields_List (λ r. every c.args.l (λ k. ltb (view c.args.m r k) 16)) _ _ _ c.all.ensures.ran (YieldsList-from_range 0 c.args.l c.args.l refl (omega arith)) (λ x b q k. search (rules, tests))
+    ∙ all-below (λ r. every c.args.l (λ k. ltb (view c.args.m r k) 16)) c.args.l

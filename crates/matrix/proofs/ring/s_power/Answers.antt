@@ -1,8 +1,7 @@
 -- `matrix::s_power` meets its contract. The invariant: after i products the block is that of S to the i.
 -- A callee with no `requires` asks nothing: `(λ _ _. tt)`.
-use mathlib.Core.Path.{◌≡◌, sym, ap, ◌∙◌}
+use mathlib.Core.Path.{sym, ap, ◌∙◌}
 use native.Mathlib.Omega.{arith}
-use Rattle.matrix.specs.RingElements.{power_s}
 use Rattle.matrix.specs.Block.{block}
 use Rattle.matrix.specs.Steps.{power_s-none}
 use Rattle.matrix.specs.RingSteps.{power-step}
@@ -14,9 +13,3 @@ loop-i-init c = (omega arith, c.one-power.ensures ∙ ap (block _) (sym (power_s
 pub loop-i-preserved : goal.loop-i-preserved
 loop-i-preserved c =
     (omega arith, power-step c.requires c.loop-i.i c.s_matrix-s.ensures c.loop-i.invariant.1 c.product-next.ensures)
-
-pub returns : goal.returns
-returns c =
-    let in' = c.args in
-    let all : c.loop-i.i ≡ in'.k = omega (arith, c.loop-i.invariant.0, c.loop-i-test.false) in
-    c.loop-i.invariant.1 ∙ ap (λ i. block in'.l (power_s in'.l i)) all

@@ -5,18 +5,19 @@ use Rattle.public_map.specs.MapRows.{split_row}
 use Rattle.sets.specs.Rooms.{kept-room}
 use native.Mathlib.Nat.{le_trans}
 use native.Mathlib.Omega.{arith}
+use Rattle.sets.proofs.Bounds.{bounds_of}
 use Rattle.public_map.proofs.block_rows.add_rows.Goals as goal
 
 pub overflow_mul-n : goal.overflow_mul-n
-overflow_mul-n c = omega (arith, c.requires.bounds.products.ll)
+overflow_mul-n c = omega (arith, (bounds_of c.args.set).products.ll)
 
 pub add_blocks-requires : goal.add_blocks-requires
 add_blocks-requires c =
-    let bounds = c.requires.bounds in record { n_in_bounds = (omega (arith, c.requires.l_in_bounds.0), c.requires.l_bound.0); l_in_bounds = (omega (arith, c.requires.l_in_bounds.1), (bounds.products.vll, (bounds.limits.v-least, (omega (arith, bounds.limits.l-least), bounds.limits.l-most)))) }
+    let bounds = bounds_of c.args.set in record { n_in_bounds = (omega (arith, c.requires.l_in_bounds.0), c.requires.l_bound.0); l_in_bounds = (omega (arith, c.requires.l_in_bounds.1), (bounds.products.vll, (bounds.limits.v-least, (omega (arith, bounds.limits.l-least), bounds.limits.l-most)))) }
 
 pub add_blocks-requires-2 : goal.add_blocks-requires-2
 add_blocks-requires-2 c =
-    let bounds = c.requires.bounds in record { n_in_bounds = (omega (arith, kept-room c.requires.l_in_bounds.0 c.add_blocks.auto.dst), c.requires.l_bound.1); l_in_bounds = (c.requires.l_in_bounds.1, (le_trans bounds.limits.row (omega arith), (bounds.limits.o-least, (omega (arith, bounds.limits.l-least), bounds.limits.l-most)))) }
+    let bounds = bounds_of c.args.set in record { n_in_bounds = (omega (arith, kept-room c.requires.l_in_bounds.0 c.add_blocks.auto.dst), c.requires.l_bound.1); l_in_bounds = (c.requires.l_in_bounds.1, (le_trans bounds.limits.row (omega arith), (bounds.limits.o-least, (omega (arith, bounds.limits.l-least), bounds.limits.l-most)))) }
 
 -- both parts, one after the other, for every table that the multiples are of
 pub returns : goal.returns

@@ -7,20 +7,21 @@ use Rattle.tables.specs.Table.{cleared}
 use Rattle.public_map.specs.MapPlaces.{few-variables}
 use Rattle.public_map.specs.MapSums.{summing-none, summing-next, summing-end}
 use native.Mathlib.Omega.{arith}
+use Rattle.sets.proofs.Bounds.{bounds_of}
 use Rattle.public_map.proofs.sums.all_sums.Goals as goal
 
 pub overflow_mul-l : goal.overflow_mul-l
-overflow_mul-l c = omega (arith, c.requires.bounds.products.ll)
+overflow_mul-l c = omega (arith, (bounds_of c.args.set).products.ll)
 
 pub overflow_add-set : goal.overflow_add-set
-overflow_add-set c = omega (arith, few-variables c.requires.bounds)
+overflow_add-set c = omega (arith, few-variables (bounds_of c.args.set))
 
 pub overflow_mul-set : goal.overflow_mul-set
-overflow_mul-set c = omega (arith, list-rows c.requires.bounds)
+overflow_mul-set c = omega (arith, list-rows (bounds_of c.args.set))
 
 pub multiply-requires : goal.multiply-requires
 multiply-requires c =
-    (omega (arith, list-rows c.requires.bounds, length-zeros (list_rows * 8)), (c.requires.l_in_bounds.1, c.requires.bounds.products.ll))
+    (omega (arith, list-rows (bounds_of c.args.set), length-zeros (list_rows * 8)), (c.requires.l_in_bounds.1, (bounds_of c.args.set).products.ll))
 
 pub loop-i-init : goal.loop-i-init
 loop-i-init c =
@@ -30,11 +31,7 @@ loop-i-init c =
 pub index_sums-requires : goal.index_sums-requires
 index_sums-requires c =
     let cleared-length = c.clear.auto.s in
-    let multiply = c.multiply in record { bounds = (c.requires.bounds, c.loop-i-test.true); l_in_bounds = (omega (arith, c.requires.l_in_bounds.0, c.loop-i.invariant.0, cleared-length), c.requires.l_in_bounds.1); public_len = c.requires.public_len; l_in_bounds_2 = (omega (arith, list-rows c.requires.bounds, length-zeros (list_rows * 8), multiply.auto.table), multiply.ensures.words) }
-
-pub overflow_add-i : goal.overflow_add-i
-overflow_add-i c =
-    omega (arith, c.loop-i-test.true, c.requires.bounds.limits.o-most)
+    let multiply = c.multiply in record { i_lt_o = c.loop-i-test.true; l_in_bounds = (omega (arith, c.requires.l_in_bounds.0, c.loop-i.invariant.0, cleared-length), c.requires.l_in_bounds.1); public_len = c.requires.public_len; l_in_bounds_2 = (omega (arith, list-rows (bounds_of c.args.set), length-zeros (list_rows * 8), multiply.auto.table), multiply.ensures.words) }
 
 pub loop-i-smaller : goal.loop-i-smaller
 loop-i-smaller c = omega (arith, c.loop-i-test.true)

@@ -1,12 +1,9 @@
 -- `public_map::sums::all_sums` meets its contract. The invariant: the first i matrix indices are done. Rests on MapSums.
 use mathlib.Core.Path.{◌≡◌}
-use Prim.Native.Nat.{◌-◌}
 use lib.ListN.{length}
 use Rattle.public_map.specs.MapSums.{Summing}
+use Rattle.sets.specs.Numbers.{numbers}
 use Rattle.public_map.proofs.sums.all_sums.Given as goal
 
 abbrev pub invariant-loop-i : goal.invariant-loop-i
-invariant-loop-i l = (length l.sums ≡ length l.initial.sums) × Summing l.set l.public l.key l.w l.i l.sums
-
-abbrev pub decreases-loop-i : goal.decreases-loop-i
-decreases-loop-i l = l.o - l.i
+invariant-loop-i l = (length l.sums ≡ length l.initial.sums) × Summing (numbers l.set) l.public l.key l.w l.i l.sums

@@ -5,35 +5,37 @@ use Rattle.sets.specs.Bounds.{Bounds}
 use Rattle.public_map.specs.MapPlaces.{index-within, block-row-within, few-variables, IndexPlace, index-place}
 use Rattle.public_map.specs.MapSums.{index-none, index-next, index-end}
 use native.Mathlib.Omega.{arith}
+use Rattle.sets.specs.Numbers.{numbers}
+use Rattle.sets.proofs.Bounds.{bounds_of}
 use Rattle.public_map.proofs.sums.index_sums.Goals as goal
 
 pub overflow_add-n : goal.overflow_add-n
 overflow_add-n c =
-    let bounds : Bounds c.args.set = c.requires.bounds.0 in
+    let bounds : Bounds (numbers c.args.set) = (bounds_of c.args.set) in
     omega (arith, few-variables (bounds))
 
 pub overflow_mul-at : goal.overflow_mul-at
 overflow_mul-at c =
-    let bounds : Bounds c.args.set = c.requires.bounds.0 in
-    let place : IndexPlace c.args.set.l c.args.i = index-place (bounds) c.requires.bounds.1 in
+    let bounds : Bounds (numbers c.args.set) = (bounds_of c.args.set) in
+    let place : IndexPlace c.args.set.l c.args.i = index-place (bounds) c.requires.i_lt_o in
     omega (arith, place.square)
 
 pub overflow_mul-at-2 : goal.overflow_mul-at-2
 overflow_mul-at-2 c =
-    let bounds : Bounds c.args.set = c.requires.bounds.0 in
-    let place : IndexPlace c.args.set.l c.args.i = index-place (bounds) c.requires.bounds.1 in
+    let bounds : Bounds (numbers c.args.set) = (bounds_of c.args.set) in
+    let place : IndexPlace c.args.set.l c.args.i = index-place (bounds) c.requires.i_lt_o in
     omega (arith, place.rows)
 
 pub overflow_mul-at-3 : goal.overflow_mul-at-3
 overflow_mul-at-3 c =
-    let bounds : Bounds c.args.set = c.requires.bounds.0 in
-    let place : IndexPlace c.args.set.l c.args.i = index-place (bounds) c.requires.bounds.1 in
+    let bounds : Bounds (numbers c.args.set) = (bounds_of c.args.set) in
+    let place : IndexPlace c.args.set.l c.args.i = index-place (bounds) c.requires.i_lt_o in
     omega (arith, place.square)
 
 pub overflow_mul-at-4 : goal.overflow_mul-at-4
 overflow_mul-at-4 c =
-    let bounds : Bounds c.args.set = c.requires.bounds.0 in
-    let place : IndexPlace c.args.set.l c.args.i = index-place (bounds) c.requires.bounds.1 in
+    let bounds : Bounds (numbers c.args.set) = (bounds_of c.args.set) in
+    let place : IndexPlace c.args.set.l c.args.i = index-place (bounds) c.requires.i_lt_o in
     omega (arith, place.place)
 
 pub loop-j-init : goal.loop-j-init
@@ -44,26 +46,21 @@ slice_bounds-map_rows-end c = omega (arith, c.loop-j.invariant.1)
 
 pub map_rows-requires : goal.map_rows-requires
 map_rows-requires c =
-    let bounds : Bounds c.args.set = c.requires.bounds.0 in
+    let bounds : Bounds (numbers c.args.set) = (bounds_of c.args.set) in
     let y-long = c.loop-j.invariant.1 in
-    record { bounds = (bounds, c.requires.bounds.1, c.loop-j-test.true); l_in_bounds = (omega (arith, bounds.products.lll, y-long), c.requires.l_in_bounds_2.0); public_len = c.requires.public_len }
+    record { i_lt_o = (c.requires.i_lt_o, c.loop-j-test.true); l_in_bounds = (omega (arith, bounds.products.lll, y-long), c.requires.l_in_bounds_2.0); public_len = c.requires.public_len }
 
 pub slice_bounds-add_power_sum-end : goal.slice_bounds-add_power_sum-end
 slice_bounds-add_power_sum-end c = omega (arith, c.loop-j.invariant.1, c.map_rows.auto.y)
 
 pub add_power_sum-requires : goal.add_power_sum-requires
 add_power_sum-requires c =
-    let bounds : Bounds c.args.set = c.requires.bounds.0 in
+    let bounds : Bounds (numbers c.args.set) = (bounds_of c.args.set) in
     let inv = c.loop-j.invariant in
     let l = c.args.set.l in (
-      omega (arith, index-within l c.requires.bounds.1 c.requires.l_in_bounds.0, inv.2.long),
+      omega (arith, index-within l c.requires.i_lt_o c.requires.l_in_bounds.0, inv.2.long),
       (block-row-within l c.loop-j-test.true c.requires.l_in_bounds.1, omega (arith, bounds.products.lll, inv.1, c.map_rows.auto.y)),
     )
-
-pub overflow_add-j : goal.overflow_add-j
-overflow_add-j c =
-    let bounds : Bounds c.args.set = c.requires.bounds.0 in
-    omega (arith, c.loop-j-test.true, few-variables (bounds))
 
 pub loop-j-smaller : goal.loop-j-smaller
 loop-j-smaller c = omega (arith, c.loop-j-test.true)

@@ -6,6 +6,3 @@ use Rattle.public_map.proofs.values.put_block.Given as goal
 
 abbrev pub invariant-loop-e : goal.invariant-loop-e
 invariant-loop-e l = (l.e ≤ l.l * l.l) × Segment l.initial.values l.at l.e (λ e. view l.block (e / l.l) (e % l.l)) l.values
-
-abbrev pub decreases-loop-e : goal.decreases-loop-e
-decreases-loop-e l = l.n - l.e

@@ -5,7 +5,7 @@ use mathlib.Core.Path.{sym, ap}
 use Rattle.response_lines.proofs.labels.label_length.Goals as goal
 
 pub returns-then-field-lt8 : goal.returns-then-field-lt8
-returns-then-field-lt8 c = rw c.wider.ensures (label-length _ c.if-field-lt8.true)
+returns-then-field-lt8 c = rw c.from.ensures (label-length _ c.if-field-lt8.true)
 
 pub returns-else-field-lt8 : goal.returns-else-field-lt8
 returns-else-field-lt8 c = sym (ap length (label-past _ c.if-field-lt8.false))

@@ -1,51 +1,38 @@
--- The value stands where the search found its line (seeks-here); decoded, it is what is promised (collects-here). Else nothing is written.
-use mathlib.Core.Path.{sym, subst, ◌∙◌}
-use Prim.Native.Nat.{◌+◌, ◌-◌}
-use lib.ListN.{take, drop}
-use Rattle.response_format.specs.Lent.{Decodes, Collects}
-use Rattle.response_machine.proofs.Seeks.{seeks-here, seeks-nowhere}
-use Rattle.response_machine.specs.Collecting.{collects-here, collects-nothing}
-use native.Mathlib.Omega.{arith}
+-- The value stands where the search found its line (seeks_line); decoded, it is what is promised (collects-written). Else nothing is written.
+use Rattle.std.proofs.Common.{rules, ◌≡◌, Ok, Err, ap, subst, ◌∙◌, ◌+◌, ◌-◌, take, drop}
+use Rattle.response_format.specs.Lent.{Decodes}
+use Rattle.response_machine.proofs.Seeks.{seeks_line, seeks-missing, seeks-refused}
+use Rattle.response_machine.specs.Collecting.{collects-written, collects-unwritten, collects-absent, collects-refused}
 use Rattle.responses.proofs.collecting.collect.Goals as goal
 
-pub overflow_add-from : goal.overflow_add-from
-overflow_add-from c =
+pub returns-in_err-line : goal.returns-in_err-line
+returns-in_err-line c =
     let a = c.args in
-    let h = seeks-here a.file.now a.entry a.field c.find-place.ensures c.in-Between.is in
-    omega (arith, h.low, h.high, c.wider.ensures, c.label_length.ensures)
+    let is : c.from_residual.result ≡ Err c.in_err-line.field-0.0 = search rules in
+    rw is (collects-refused a.file.now a.entry a.field a.out.now _ (seeks-refused a.file.now a.entry a.field c.find.ensures c.in_err-line.was))
 
-pub slice_bounds-decode-count : goal.slice_bounds-decode-count
-slice_bounds-decode-count c =
+pub returns-in_default : goal.returns-in_default
+returns-in_default c =
     let a = c.args in
-    let h = seeks-here a.file.now a.entry a.field c.find-place.ensures c.in-Between.is in
-    omega (arith, h.low, h.high, c.wider.ensures, c.label_length.ensures)
+    collects-absent a.file.now a.entry a.field a.out.now (seeks-missing a.file.now a.entry a.field c.find.ensures (c.in_ok-line.was ∙ ap Ok c.in_default.is))
 
-pub slice_bounds-decode-start : goal.slice_bounds-decode-start
-slice_bounds-decode-start c =
+pub returns-in_err-decode : goal.returns-in_err-decode
+returns-in_err-decode c =
     let a = c.args in
-    let h = seeks-here a.file.now a.entry a.field c.find-place.ensures c.in-Between.is in
-    omega (arith, h.low, h.high, c.wider.ensures, c.label_length.ensures)
-
-pub slice_bounds-decode-end : goal.slice_bounds-decode-end
-slice_bounds-decode-end c =
-    let a = c.args in
-    let h = seeks-here a.file.now a.entry a.field c.find-place.ensures c.in-Between.is in
-    h.high
-
-pub returns-in-Between : goal.returns-in-Between
-returns-in-Between c =
-    let a = c.args in
-    let line = c.in-Between.line in
-    let to = c.in-Between.to in
+    let l = c.in-Some.line in
+    let here = seeks_line a.file.now a.entry a.field c.find.ensures c.in_ok-line.was c.in-Some.is in
     let decodes =
-    subst (λ x. Decodes (take (to - (line + x)) (drop (line + x) a.file.now)) a.out.now c.decode-answer.result c.decode-answer.new.out)
-    (c.wider.ensures ∙ c.label_length.ensures) c.decode-answer.ensures in
-    subst (λ r. Collects a.file.now a.entry a.field a.out.now r c.decode-answer.new.out) (sym c.passed_on.ensures)
-    (collects-here a.file.now a.entry a.field a.out.now (seeks-here a.file.now a.entry a.field c.find-place.ensures c.in-Between.is) decodes)
+    subst (λ x. Decodes (take (l.to - (l.from + x)) (drop (l.from + x) a.file.now)) a.out.now c.decode.result c.decode.new.out)
+    (c.from.ensures ∙ c.label_length.ensures) c.decode.ensures in
+    let is : c.from_residual-in_err-decode.result ≡ Err c.in_err-decode.field-0.0 = search rules in
+    rw is (collects-unwritten a.file.now a.entry a.field a.out.now here decodes c.in_err-decode.was)
 
-pub returns-in-Nowhere : goal.returns-in-Nowhere
-returns-in-Nowhere c =
+pub returns : goal.returns
+returns c =
     let a = c.args in
-    let n = seeks-nowhere a.file.now a.entry a.field c.find-place.ensures c.in-Nowhere.is in
-    subst (λ r. Collects a.file.now a.entry a.field a.out.now r a.out.now) (sym c.not_found.ensures)
-    (collects-nothing a.file.now a.entry a.field a.out.now _ n)
+    let l = c.in-Some.line in
+    let here = seeks_line a.file.now a.entry a.field c.find.ensures c.in_ok-line.was c.in-Some.is in
+    let decodes =
+    subst (λ x. Decodes (take (l.to - (l.from + x)) (drop (l.from + x) a.file.now)) a.out.now c.decode.result c.decode.new.out)
+    (c.from.ensures ∙ c.label_length.ensures) c.decode.ensures in
+    collects-written a.file.now a.entry a.field a.out.now here decodes c.in_ok-decode.was

@@ -1,12 +1,8 @@
 -- Invariant: the search from here on finds what the whole search finds. Rests on seeks-stop, seeks-goes and seeks-over.
 use mathlib.Core.Path.{◌≡◌}
-use Prim.Native.Nat.{◌-◌}
-use lib.ListN.{length, drop}
+use lib.ListN.{drop}
 use Rattle.response_machine.specs.Machine.{seeks}
 use Rattle.responses.proofs.collecting.find.Given as goal
 
 abbrev pub invariant-loop-at : goal.invariant-loop-at
 invariant-loop-at l = seeks l.field l.left l.here l.line l.at (drop l.at l.file) ≡ seeks l.field l.initial.left l.initial.here l.initial.line l.initial.at (drop l.initial.at l.file)
-
-abbrev pub decreases-loop-at : goal.decreases-loop-at
-decreases-loop-at l = length l.file - l.at

@@ -1,19 +1,16 @@
 -- Invariant: the reader here, fed the rest, is the reader fed all. Rests on fed-next and fed-all.
-use mathlib.Core.Path.{refl, sym, ap, ◌∙◌}
+use mathlib.Core.Path.{sym, ap, ◌∙◌}
 use Prim.Native.Nat.{◌+◌}
 use lib.ListN.{drop}
 use Rattle.response_machine.specs.Reads.{fed}
 use Rattle.response_machine.proofs.Reading.{fed-next, fed-all}
 use Rattle.responses.proofs.reading.absorb.Goals as goal
 
-pub loop-at-init : goal.loop-at-init
-loop-at-init c = refl
-
-pub loop-at-preserved : goal.loop-at-preserved
-loop-at-preserved c =
+pub loop-byte-preserved : goal.loop-byte-preserved
+loop-byte-preserved c =
     let q = c.args.piece.now in
-    ap (λ w. fed w.reader (drop (c.loop-at.at + 1) q)) c.step-stepped.ensures ∙ fed-next c.loop-at.here c.loop-at.at q c.loop-at-test.true ∙ c.loop-at.invariant
+    ap (λ w. fed w.reader (drop (c.loop-byte.byte-index + 1) q)) c.step.ensures ∙ fed-next c.loop-byte.here c.loop-byte.byte-index q c.loop-byte-test.true ∙ c.loop-byte.invariant
 
 pub returns : goal.returns
 returns c =
-    sym (fed-all c.loop-at.here c.loop-at.at c.args.piece.now c.loop-at-test.false) ∙ c.loop-at.invariant
+    sym (fed-all c.loop-byte.here c.loop-byte.byte-index c.args.piece.now c.loop-byte-test.false) ∙ c.loop-byte.invariant

@@ -1,12 +1,8 @@
 -- Invariant: the reader here, fed the rest, is the reader fed all. Rests on fed-next and fed-all.
 use mathlib.Core.Path.{◌≡◌}
-use Prim.Native.Nat.{◌-◌}
-use lib.ListN.{length, drop}
+use lib.ListN.{drop}
 use Rattle.response_machine.specs.Reads.{fed}
 use Rattle.responses.proofs.reading.absorb.Given as goal
 
-abbrev pub invariant-loop-at : goal.invariant-loop-at
-invariant-loop-at l = fed l.here (drop l.at l.piece) ≡ fed l.initial.here (drop l.initial.at l.piece)
-
-abbrev pub decreases-loop-at : goal.decreases-loop-at
-decreases-loop-at l = length l.piece - l.at
+abbrev pub invariant-loop-byte : goal.invariant-loop-byte
+invariant-loop-byte l = fed l.here (drop l.byte-index l.piece) ≡ fed l.initial.here l.piece

@@ -1,12 +1,9 @@
 -- Invariant: what the rest of the piece gives is what the whole part gives. Rests on feeds-tells, feeds-goes and feeds-end.
 use mathlib.Core.Path.{◌≡◌}
-use Prim.Native.Nat.{◌-◌}
+use Prim.Native.Nat.{◌≤◌, max}
 use lib.ListN.{length, drop}
 use Rattle.response_machine.specs.Machine.{feeds}
 use Rattle.responses.proofs.reading.feed.Given as goal
 
 abbrev pub invariant-loop-at : goal.invariant-loop-at
-invariant-loop-at l = feeds l.here l.at (drop l.at l.piece) ≡ feeds l.initial.here l.initial.at (drop l.initial.at l.piece)
-
-abbrev pub decreases-loop-at : goal.decreases-loop-at
-decreases-loop-at l = length l.piece - l.at
+invariant-loop-at l = (l.at ≤ max l.from (length l.piece)) × (feeds l.here l.at (drop l.at l.piece) ≡ feeds l.initial.here l.from (drop l.from l.piece))

@@ -1,5 +1,6 @@
 -- The reader fed the whole file ends with the file's refusal: `reads`.
 use mathlib.Core.Path.{ap, ◌∙◌}
+use Rattle.ground.specs.Answers.{number_of}
 use Rattle.response_machine.specs.Reads.{fed, end_of}
 use Rattle.response_machine.proofs.Reading.{reads}
 use Rattle.responses.proofs.reading.refusal.Goals as goal
@@ -7,5 +8,5 @@ use Rattle.responses.proofs.reading.refusal.Goals as goal
 pub returns : goal.returns
 returns c =
     let file = c.args.file.now in
-    let last = c.absorb-last.ensures ∙ ap (λ r. fed r file) c.start.ensures in
-    c.end.ensures ∙ ap end_of last ∙ reads file
+    let last = c.absorb.ensures ∙ ap (λ r. fed r file) c.start.ensures in
+    ap number_of (c.end.ensures ∙ ap end_of last) ∙ reads file

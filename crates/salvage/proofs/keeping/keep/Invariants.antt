@@ -1,10 +1,6 @@
 -- `salvage::keep` meets its contract: k of the first b blocks are kept, and what is kept of the others is still to come. Rests on Keeping.
-use Prim.Native.Nat.{◌-◌}
 use Rattle.salvage.specs.Keeping.{Keeping}
 use Rattle.salvage.proofs.keeping.keep.Given as goal
 
 abbrev pub invariant-loop-b : goal.invariant-loop-b
 invariant-loop-b l = Keeping l.initial.output l.book l.list l.n l.k l.b l.output
-
-abbrev pub decreases-loop-b : goal.decreases-loop-b
-decreases-loop-b l = l.n - l.b

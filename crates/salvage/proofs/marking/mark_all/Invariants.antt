@@ -1,10 +1,6 @@
 -- `salvage::mark_all` meets its contract: what is marked so far, and what the blocks from b on spoil, is all that is spoiled. Rests on Marking.
-use Prim.Native.Nat.{◌-◌}
 use Rattle.salvage.specs.Marking.{Marking}
 use Rattle.salvage.proofs.marking.mark_all.Given as goal
 
 abbrev pub invariant-loop-b : goal.invariant-loop-b
 invariant-loop-b l = Marking l.book l.marks l.n l.b l.before l.pending
-
-abbrev pub decreases-loop-b : goal.decreases-loop-b
-decreases-loop-b l = l.n - l.b

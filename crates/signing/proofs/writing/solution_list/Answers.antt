@@ -4,6 +4,8 @@ use mathlib.Core.Path.{refl, sym}
 use Rattle.sets.specs.Rooms.{kept-room, powers-room, private-room}
 use Rattle.signing.specs.Emitting.{vinegar-within, counted, counted-from-start, vinegar-first, vinegar-rows, oil-rows, oil-last, solution-from}
 use native.Mathlib.Omega.{arith}
+use Rattle.sets.specs.Numbers.{numbers}
+use Rattle.sets.proofs.Bounds.{bounds_of}
 use Rattle.signing.proofs.writing.solution_list.Goals as goal
 
 pub slice_bounds-powers_of_s-end : goal.slice_bounds-powers_of_s-end
@@ -11,7 +13,7 @@ slice_bounds-powers_of_s-end c = refl
 
 pub powers_of_s-requires : goal.powers_of_s-requires
 powers_of_s-requires c =
-    let b = c.requires.bounds in
+    let b = bounds_of c.args.set in
     (omega (arith, b.limits.l-most), powers-room b)
 
 pub slice_bounds-private_table-end : goal.slice_bounds-private_table-end
@@ -22,34 +24,28 @@ slice_bounds-private_table-end-2 c = sym c.powers_of_s.auto.sp
 
 pub private_table-requires : goal.private_table-requires
 private_table-requires c =
-    let b = c.requires.bounds in
+    let b = bounds_of c.args.set in
     let sp = c.powers_of_s in
-    record { bounds = b; private_len = (c.requires.private_len.0, private-room b, kept-room (powers-room b) sp.auto.sp); powers = sp.ensures.holds }
-
-pub vinegar_count-vinegar_elements-requires : goal.vinegar_count-vinegar_elements-requires
-vinegar_count-vinegar_elements-requires c = c.requires.bounds
-
-pub unknowns-oil_elements-requires : goal.unknowns-oil_elements-requires
-unknowns-oil_elements-requires c = c.requires.bounds
+    record { private_len = (c.requires.private_len.0, private-room b, kept-room (powers-room b) sp.auto.sp); powers = sp.ensures.holds }
 
 pub unpack_all-requires : goal.unpack_all-requires
 unpack_all-requires c =
-    let b = c.requires.bounds in
+    let b = bounds_of c.args.set in
     let n = c.vinegar_count-vinegar_elements.ensures in
-    (vinegar-first b n c.requires.set_in_bounds.0, counted n (vinegar-within c.args.set c.requires.private_len.1))
+    (vinegar-first b n c.requires.set_in_bounds.0, counted n (vinegar-within (numbers c.args.set) c.requires.private_len.1))
 
 pub slice_bounds-add_oil-end : goal.slice_bounds-add_oil-end
 slice_bounds-add_oil-end c = sym c.private_table.auto.t
 
 pub add_oil-requires : goal.add_oil-requires
 add_oil-requires c =
-    let b = c.requires.bounds in
+    let b = bounds_of c.args.set in
     let rows = kept-room (vinegar-rows b c.requires.set_in_bounds.0) c.unpack_all.auto.dst in
-    record { bounds = b; l_in_bounds = (rows, (kept-room (private-room b) c.private_table.auto.t, oil-rows b c.requires.set_in_bounds.1)) }
+    record { l_in_bounds = (rows, (kept-room (private-room b) c.private_table.auto.t, oil-rows b c.requires.set_in_bounds.1)) }
 
 pub add_scaled-requires : goal.add_scaled-requires
 add_scaled-requires c =
-    let b = c.requires.bounds in
+    let b = bounds_of c.args.set in
     let n = c.vinegar_count-vinegar_elements.ensures in
     let m = c.unknowns-oil_elements.ensures in
     let room = kept-room (kept-room c.requires.set_in_bounds.0 c.unpack_all.auto.dst) c.add_oil.auto.u in

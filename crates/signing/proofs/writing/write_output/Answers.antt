@@ -1,18 +1,19 @@
 -- `signing::write_output` meets its contract. The elements and a zero in the spare half, then the salt (`output-from`).
--- A callee with no `requires` asks nothing: `(λ _ _. tt)`.
-use Prim.Native.Nat.{◌+◌}
+use mathlib.Core.Path.{◌≡◌, ap}
+use Prim.Native.Nat.{◌+◌, ◌-◌}
+use lib.ListN.{length, get_or}
+use borrow.Author.Rules.{rules}
+use Rattle.ground.specs.Pieces.{segment-put}
 use Rattle.packing.specs.Packing.{packed_bytes}
 use Rattle.signing.specs.Emitting.{output-from}
 use native.Mathlib.Omega.{arith}
+use Rattle.sets.proofs.Bounds.{bounds_of}
 use Rattle.signing.proofs.writing.write_output.Goals as goal
-
-pub signature_count-count-requires : goal.signature_count-count-requires
-signature_count-count-requires c = c.requires.bounds
 
 pub overflow_mul-bytes : goal.overflow_mul-bytes
 unfolding packed_bytes
 overflow_mul-bytes c =
-    omega (arith, c.packed_bytes-bytes.ensures, c.signature_count-count.ensures, c.requires.bounds.sizes.signature)
+    omega (arith, c.packed_bytes-bytes.ensures, c.signature_count-count.ensures, (bounds_of c.args.set).sizes.signature)
 
 pub put_row-requires : goal.put_row-requires
 unfolding packed_bytes
@@ -26,14 +27,17 @@ put_row-requires c =
       by_index = λ k h. c.requires.by_index (0 + k);
     }
 
-pub write_salt-requires : goal.write_salt-requires
-unfolding packed_bytes
-write_salt-requires c =
-    omega (arith, c.packed_bytes-bytes.ensures, c.signature_count-count.ensures, c.put_row.auto.bytes, c.requires.output_len.0)
-
 pub returns : goal.returns
+unfolding packed_bytes
 returns c =
-    output-from _ c.args.u.now c.args.salt.now c.requires.by_index c.requires.by_index_2 c.signature_count-count.ensures
-    c.packed_bytes-bytes.ensures
-    (record { below = λ k. omega (arith, c.slice_known-2-1.given k) }) c.requires.output_len.0 c.put_row.ensures
-    c.write_salt.ensures
+    let a = c.args in
+    let bytes = c.packed_bytes-bytes.result in
+    let before = c.put_row.new.bytes in
+    let all : bytes + length a.salt.now ≡ length before =
+    omega (arith, c.packed_bytes-bytes.ensures, c.signature_count-count.ensures, c.put_row.auto.bytes, c.requires.output_len.0) in
+    let rest : length before - bytes ≡ length a.salt.now = omega arith in
+    let copied = c.copy_from_slice.ensures.after in
+    let salt = segment-put bytes (length a.salt.now) before _ (λ k. get_or a.salt.now k 0) (omega arith) (ap length copied) (λ d h. ap (λ b. get_or b d 0) copied) in
+    rw rest
+    (output-from _ a.u.now a.salt.now c.requires.by_index c.requires.by_index_2 c.signature_count-count.ensures
+    c.packed_bytes-bytes.ensures (record { below = search rules }) c.requires.output_len.0 c.put_row.ensures salt)

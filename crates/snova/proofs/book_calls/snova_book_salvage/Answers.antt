@@ -6,4 +6,4 @@ pub returns-in_default : goal.returns-in_default
 returns-in_default c = salvage-refuses c.salvage-answer.ensures c.in_default.is c.number.ensures
 
 pub returns : goal.returns
-returns c = salvage-counts c.salvage-answer.ensures c.in-Kept.is
+returns c = salvage-counts c.salvage-answer.ensures c.in-Ok.is

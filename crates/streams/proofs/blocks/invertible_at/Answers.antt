@@ -4,4 +4,4 @@ use Rattle.streams.proofs.blocks.invertible_at.Goals as goal
 
 pub returns : goal.returns
 returns c =
-    makes-read c.args.l c.args.stream.now c.args.number c.requires.0 c.read_block-m.ensures c.make_invertible.ensures
+    makes-read c.args.l c.args.stream.now c.args.number c.requires.0 c.read_block.ensures c.make_invertible.ensures

@@ -1,5 +1,5 @@
 -- `streams::coefficients_of` meets its contract. The invariant: the first p places hold the first p coefficients, the others 0.
-use Prim.Native.Nat.{◌-◌, ◌≤◌}
+use Prim.Native.Nat.{◌≤◌}
 use Rattle.matrix.specs.Block.{stride}
 use Rattle.ground.specs.Segment.{Segment}
 use Rattle.rows.specs.Zero.{zeros}
@@ -9,6 +9,3 @@ use Rattle.streams.proofs.coefficients.coefficients_of.Given as goal
 
 abbrev pub invariant-loop-p : goal.invariant-loop-p
 invariant-loop-p l = (l.p ≤ l.l) × Segment (zeros stride) 0 l.p (coefficient l.l (group_of l.l l.stream l.group)) l.out
-
-abbrev pub decreases-loop-p : goal.decreases-loop-p
-decreases-loop-p l = l.l - l.p

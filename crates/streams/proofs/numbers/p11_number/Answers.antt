@@ -1,23 +1,25 @@
 -- `streams::numbers::p11_number` meets its contract: the block row lies within its stream, which has few blocks.
 use Rattle.streams.specs.Numbers.{starts, p11-fits, RowNumber, p11-row}
 use native.Mathlib.Omega.{arith}
+use Rattle.sets.specs.Numbers.{numbers}
+use Rattle.sets.proofs.Bounds.{bounds_of}
 use Rattle.streams.proofs.numbers.p11_number.Goals as goal
 
 pub overflow_mul-result : goal.overflow_mul-result
 overflow_mul-result c =
-    let row : RowNumber c.args.set.v c.args.set.v c.args.i c.args.j = p11-row c.requires.0 c.requires.1 c.requires.2 in
+    let row : RowNumber c.args.set.v c.args.set.v c.args.i c.args.j = p11-row (bounds_of c.args.set) c.requires.0 c.requires.1 in
     omega (arith, row.matrix)
 
 pub overflow_add-result : goal.overflow_add-result
 overflow_add-result c =
-    let row : RowNumber c.args.set.v c.args.set.v c.args.i c.args.j = p11-row c.requires.0 c.requires.1 c.requires.2 in
+    let row : RowNumber c.args.set.v c.args.set.v c.args.i c.args.j = p11-row (bounds_of c.args.set) c.requires.0 c.requires.1 in
     omega (arith, row.row)
 
 pub overflow_mul-result-2 : goal.overflow_mul-result-2
 overflow_mul-result-2 c =
-    let row : RowNumber c.args.set.v c.args.set.v c.args.i c.args.j = p11-row c.requires.0 c.requires.1 c.requires.2 in
+    let row : RowNumber c.args.set.v c.args.set.v c.args.i c.args.j = p11-row (bounds_of c.args.set) c.requires.0 c.requires.1 in
     omega (arith, row.block)
 
 pub returns : goal.returns
 returns c =
-    starts (omega arith) (p11-fits c.args.set c.requires.1 c.requires.2)
+    starts (omega arith) (p11-fits (numbers c.args.set) c.requires.0 c.requires.1)

@@ -1,34 +1,36 @@
 -- `streams::numbers::p12_number` meets its contract: the block row lies within its stream, which has few blocks.
 use Rattle.streams.specs.Numbers.{starts, p12-fits, RowNumber, p12-row}
 use native.Mathlib.Omega.{arith}
+use Rattle.sets.specs.Numbers.{numbers}
+use Rattle.sets.proofs.Bounds.{bounds_of}
 use Rattle.streams.proofs.numbers.p12_number.Goals as goal
 
 pub overflow_mul-result : goal.overflow_mul-result
-overflow_mul-result c = omega (arith, c.requires.0.products.vv)
+overflow_mul-result c = omega (arith, (bounds_of c.args.set).products.vv)
 
 pub overflow_mul-result-2 : goal.overflow_mul-result-2
-overflow_mul-result-2 c = omega (arith, c.requires.0.products.vvo)
+overflow_mul-result-2 c = omega (arith, (bounds_of c.args.set).products.vvo)
 
 pub overflow_mul-result-3 : goal.overflow_mul-result-3
 overflow_mul-result-3 c =
-    let row : RowNumber c.args.set.v c.args.set.o c.args.i c.args.j = p12-row c.requires.0 c.requires.1 c.requires.2 in
+    let row : RowNumber c.args.set.v c.args.set.o c.args.i c.args.j = p12-row (bounds_of c.args.set) c.requires.0 c.requires.1 in
     omega (arith, row.matrix)
 
 pub overflow_add-result : goal.overflow_add-result
 overflow_add-result c =
-    let row : RowNumber c.args.set.v c.args.set.o c.args.i c.args.j = p12-row c.requires.0 c.requires.1 c.requires.2 in
+    let row : RowNumber c.args.set.v c.args.set.o c.args.i c.args.j = p12-row (bounds_of c.args.set) c.requires.0 c.requires.1 in
     omega (arith, row.row)
 
 pub overflow_mul-result-4 : goal.overflow_mul-result-4
 overflow_mul-result-4 c =
-    let row : RowNumber c.args.set.v c.args.set.o c.args.i c.args.j = p12-row c.requires.0 c.requires.1 c.requires.2 in
+    let row : RowNumber c.args.set.v c.args.set.o c.args.i c.args.j = p12-row (bounds_of c.args.set) c.requires.0 c.requires.1 in
     omega (arith, row.block)
 
 pub overflow_add-result-2 : goal.overflow_add-result-2
 overflow_add-result-2 c =
-    let row : RowNumber c.args.set.v c.args.set.o c.args.i c.args.j = p12-row c.requires.0 c.requires.1 c.requires.2 in
-    omega (arith, row.block, c.requires.0.products.vvo)
+    let row : RowNumber c.args.set.v c.args.set.o c.args.i c.args.j = p12-row (bounds_of c.args.set) c.requires.0 c.requires.1 in
+    omega (arith, row.block, (bounds_of c.args.set).products.vvo)
 
 pub returns : goal.returns
 returns c =
-    starts (omega arith) (p12-fits c.args.set c.requires.1 c.requires.2)
+    starts (omega arith) (p12-fits (numbers c.args.set) c.requires.0 c.requires.1)

@@ -6,9 +6,6 @@ use Rattle.streams.specs.TermPlaces.{a_lt}
 use native.Mathlib.Omega.{arith}
 use Rattle.streams.proofs.places.a_number.Goals as goal
 
-pub terms-requires : goal.terms-requires
-terms-requires c = c.requires.bounds
-
 pub overflow_mul-result : goal.overflow_mul-result
 unfolding term_number
 overflow_mul-result c = omega (arith, ap (λ x. c.args.i * x) c.terms.ensures, a_lt c.requires, c.requires.bounds.sizes.all-terms)

@@ -5,9 +5,6 @@ use Rattle.streams.specs.TermPlaces.{a_lt}
 use native.Mathlib.Omega.{arith}
 use Rattle.streams.proofs.places.b_number.Goals as goal
 
-pub all_terms-requires : goal.all_terms-requires
-all_terms-requires c = c.requires.bounds
-
 pub a_number-requires : goal.a_number-requires
 a_number-requires c = c.requires
 

@@ -5,9 +5,6 @@ use Rattle.streams.specs.TermPlaces.{few-groups, q1-within}
 use native.Mathlib.Omega.{arith}
 use Rattle.streams.proofs.places.q1_number.Goals as goal
 
-pub all_terms-requires : goal.all_terms-requires
-all_terms-requires c = c.requires.bounds
-
 pub overflow_mul-result : goal.overflow_mul-result
 overflow_mul-result c = omega (arith, c.all_terms.ensures, c.requires.bounds.sizes.all-terms)
 

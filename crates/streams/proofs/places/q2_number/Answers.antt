@@ -3,9 +3,6 @@ use Rattle.streams.specs.TermPlaces.{few-groups, q2-within}
 use native.Mathlib.Omega.{arith}
 use Rattle.streams.proofs.places.q2_number.Goals as goal
 
-pub all_terms-requires : goal.all_terms-requires
-all_terms-requires c = c.requires.bounds
-
 pub q1_number-requires : goal.q1_number-requires
 q1_number-requires c = c.requires
 

@@ -1,10 +1,6 @@
 -- `tables::power_row` meets its contract. The invariant: the rows for the first b powers are added, side by side. Rests on PowerRows and Turns.
-use Prim.Native.Nat.{◌-◌}
 use Rattle.tables.specs.PowerRows.{Powering}
 use Rattle.tables.proofs.powers.power_row.Given as goal
 
 abbrev pub invariant-loop-b : goal.invariant-loop-b
 invariant-loop-b l = Powering l.initial.w l.at l.l l.list l.k l.sp l.x l.b l.w
-
-abbrev pub decreases-loop-b : goal.decreases-loop-b
-decreases-loop-b l = l.l - l.b

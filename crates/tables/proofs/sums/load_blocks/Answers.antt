@@ -54,11 +54,6 @@ copy_column-requires c =
     let turn : EntryTurn c.args.l c.args.count c.loop-e.e = entry-turn c.args.l c.args.count c.requires.l_in_bounds.1.1 c.loop-e-test.true in
     let laid = c.lay_blocks-place in record { by_index = λ k hk. (omega (arith, turn.write k hk, c.requires.l_in_bounds.0, c.loop-e.invariant.0), omega (arith, turn.read k hk, c.requires.l_bound.0, laid.ensures.early, laid.auto.flat)); stride_nonzero = c.requires.l_in_bounds.1.1 }
 
-pub overflow_add-e-in-loop-e : goal.overflow_add-e-in-loop-e
-overflow_add-e-in-loop-e c =
-    let few : c.args.l * c.args.l ≤ vinegar_room = block_room c.args.l c.requires.l_bound.1 (omega (arith, c.requires.l_bound.0)) in
-    omega (arith, c.loop-e-test.true, few)
-
 pub loop-e-preserved : goal.loop-e-preserved
 loop-e-preserved c =
     let copied = c.copy_column in (

@@ -1,12 +1,8 @@
 -- `tables::sums::load_blocks` meets its contract. The invariant: the first e entries of each block are copied. Rests on Columns and Laid.
 use mathlib.Core.Path.{◌≡◌}
-use Prim.Native.Nat.{◌-◌}
 use lib.ListN.{length}
 use Rattle.tables.specs.Columns.{Loading}
 use Rattle.tables.proofs.sums.load_blocks.Given as goal
 
 abbrev pub invariant-loop-e : goal.invariant-loop-e
 invariant-loop-e l = (length l.dst ≡ length l.initial.dst) × Loading l.l l.count l.stream l.number l.e l.dst
-
-abbrev pub decreases-loop-e : goal.decreases-loop-e
-decreases-loop-e l = l.size - l.e

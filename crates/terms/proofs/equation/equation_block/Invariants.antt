@@ -1,13 +1,11 @@
 -- `terms::equation_block` meets its contract. The invariant: the block holds the sum of the first alpha terms.
 use mathlib.Core.Path.{◌≡◌}
-use Prim.Native.Nat.{◌-◌, ◌≤◌}
+use Prim.Native.Nat.{◌≤◌}
 use Rattle.matrix.specs.Block.{block}
 use Rattle.scheme.specs.Maps.{sum_m}
 use Rattle.terms.specs.Terms.{term_from}
+use Rattle.sets.specs.Numbers.{numbers}
 use Rattle.terms.proofs.equation.equation_block.Given as goal
 
 abbrev pub invariant-loop-alpha : goal.invariant-loop-alpha
-invariant-loop-alpha l = (l.alpha ≤ l.count) × (l.sum ≡ block l.l (sum_m l.alpha (term_from l.set l.abq l.sums l.i)))
-
-abbrev pub decreases-loop-alpha : goal.decreases-loop-alpha
-decreases-loop-alpha l = l.count - l.alpha
+invariant-loop-alpha l = (l.alpha ≤ l.count) × (l.sum ≡ block l.l (sum_m l.alpha (term_from (numbers l.set) l.abq l.sums l.i)))

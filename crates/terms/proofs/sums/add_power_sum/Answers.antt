@@ -34,10 +34,6 @@ add_columns-requires c =
     let row = c.loop-row.row in
     let taken = c.loop-row-test.true in record { n_in_bounds = omega (arith, gain-row-within a.l row a.at (length a.sums.now) taken c.requires.0, c.loop-row.invariant.so_far.long, c.requires.1.1); by_index = λ x h. omega (arith, scalar-within a.l a.j row x (length a.w.now) taken h c.requires.1.0) }
 
-pub overflow_add-row : goal.overflow_add-row
-overflow_add-row c =
-    omega (arith, square-within c.args.l (length c.args.y.now) c.requires.1.1)
-
 pub loop-row-preserved : goal.loop-row-preserved
 loop-row-preserved c =
     gaining-next c.loop-row.invariant c.loop-row-test.true c.add_columns.ensures

@@ -1,10 +1,6 @@
 -- `terms::add_power_sum` meets its contract. The invariant: the first `row` rows have gained. Rests on Gain.
-use Prim.Native.Nat.{◌-◌, ◌*◌}
 use Rattle.terms.specs.Gain.{Gaining}
 use Rattle.terms.proofs.sums.add_power_sum.Given as goal
 
 abbrev pub invariant-loop-row : goal.invariant-loop-row
 invariant-loop-row l = Gaining l.l l.w l.j l.y l.at l.initial.sums l.row l.sums
-
-abbrev pub decreases-loop-row : goal.decreases-loop-row
-decreases-loop-row l = l.l * l.l - l.row
