@@ -2,11 +2,9 @@
 -- Rests on Within and Reading.
 use Rattle.std.specs.Prelude.{◌≡◌, Bool, true, false, ℕ, zero, suc, ◌+◌, ◌*◌, ◌%◌, ◌<◌, ◌≤◌, eqb, ltb, length, get_or, take, Some, None}
 use Rattle.std.proofs.Math.Path.{refl, sym, ap}
-use Rattle.std.proofs.Common.{ap₂, ◌∙◌, not-suc-le-zero, arith, take_all}
-use mathlib.Core.List.{List, [], ◌∷◌, ◌++◌, map, append-nil, append_assoc}
+use Rattle.std.proofs.Common.{ap₂, ◌∙◌, not-suc-le-zero, arith, take_all, List, [], ◌∷◌, ◌++◌, map, append-nil, append_assoc, eq-eqb, ne_eqb, lt-ltb, le-ltb, ltb-true}
 use Rattle.std.proofs.Math.Decide.{ℕ_discrete, dec_lt}
 use Rattle.std.proofs.Math.Seq.{drop-append_seam}
-use borrow.Author.Tests.{eq-eqb, ne_eqb, lt-ltb, le-ltb, ltb-true}
 use Rattle.ground.specs.Pick.{pick, both}
 use Rattle.response_format.specs.Given.{given-met, refuses, given-refused}
 use Rattle.ground.specs.declared.Refusal.{Refusal}

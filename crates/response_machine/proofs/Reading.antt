@@ -2,8 +2,7 @@
 -- Rests on Rules, Within and Machine.
 use Rattle.std.specs.Prelude.{◌≡◌, Bool, true, false, ◌↔◌, ℕ, zero, suc, ◌+◌, ◌<◌, ◌≤◌, eqb, ltb, length, drop, get_or, Ok, Err}
 use Rattle.std.proofs.Math.Path.{refl}
-use Rattle.std.proofs.Common.{sym, ap, ◌∙◌, add-one, arith, eq-eqb, ne_eqb, lt-ltb, ltb-true, drop-cons}
-use mathlib.Core.List.{List, [], ◌∷◌, ◌++◌, append-nil}
+use Rattle.std.proofs.Common.{sym, ap, ◌∙◌, add-one, arith, eq-eqb, ne_eqb, lt-ltb, ltb-true, drop-cons, List, [], ◌∷◌, ◌++◌, append-nil}
 use Rattle.std.proofs.Math.Decide.{ℕ_discrete}
 use Rattle.ground.specs.Pick.{pick, both, both_left}
 use Rattle.ground.specs.Answers.{first, number_of}

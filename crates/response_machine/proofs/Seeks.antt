@@ -2,9 +2,7 @@
 -- Rests on Machine, Within and Reading.
 use Rattle.std.specs.Prelude.{◌≡◌, Bool, true, false, not, eqb, ltb, get_or, take, drop, Option, Some, None, Ok, Err}
 use Rattle.std.proofs.Math.Path.{refl, ap}
-use Rattle.std.proofs.Common.{sym, ap₂, subst, ◌∙◌, add_assoc, length-append, length-drop, drop-cons, eq-eqb, ne_eqb, eqb-true}
-use mathlib.Core.List.{List, [], ◌∷◌, ◌++◌, append-nil, append_assoc}
-use Prim.Native.Nat.{ℕ, suc, ◌+◌, ◌-◌, ◌<◌, ◌≤◌}
+use Rattle.std.proofs.Common.{sym, ap₂, subst, ◌∙◌, add_assoc, length-append, length-drop, drop-cons, eq-eqb, ne_eqb, eqb-true, List, [], ◌∷◌, ◌++◌, append-nil, append_assoc, ℕ, suc, ◌+◌, ◌-◌, ◌<◌, ◌≤◌}
 use Rattle.std.proofs.Math.Decide.{ℕ_discrete}
 use native.Mathlib.Omega.{arith}
 use Rattle.std.proofs.Math.Numerals.{add-one}

@@ -2,10 +2,10 @@
 -- Rests on Rules, Scan, Labels and Machine.
 use Rattle.std.specs.Prelude.{◌≡◌, refl, Bool, true, false, ◌⊎◌, List, [], ◌∷◌, ◌++◌, ℕ, zero, suc, ◌+◌, ◌*◌, ◌<◌, ◌≤◌, T, eqb, ltb, leb, length, get_or, take}
 use Rattle.std.proofs.Math.Path.{sym, ap}
-use Rattle.std.proofs.Common.{◌∙◌, inl, inr, append-nil, append_assoc, add-one, arith, eqb→eq, ltb→lt, take-suc, take_all, not-suc-le-zero}
+use Rattle.std.proofs.Common.{◌∙◌, inl, inr, append-nil, append_assoc, add-one, arith, eqb→eq, ltb→lt, take-suc, take_all, not-suc-le-zero, eq-eqb, ne_eqb, lt-ltb, le-ltb, le-leb}
 use Rattle.std.proofs.Math.Decide.{ℕ_discrete, dec_lt, dec_le}
 use Rattle.std.proofs.Math.Seq.{drop-append_seam}
-use borrow.Author.Tests.{eq-eqb, ne_eqb, lt-ltb, le-ltb, le-leb, lt-leb}
+use borrow.Author.Tests.{lt-leb}
 use Rattle.ground.specs.Pick.{pick, both}
 use Rattle.ground.specs.Answers.{Rule, unless}
 use Rattle.response_format.specs.Given.{given}

@@ -3,8 +3,7 @@
 -- Rests on Parts, on algebra's Composition and on matrix's RingLaws.
 use Rattle.std.specs.Prelude.{◌≡◌, List}
 use Rattle.std.proofs.Math.Path.{sym, ap}
-use Rattle.std.proofs.Common.{ap₂, ◌∙◌, arith}
-use Prim.Native.Nat.{ℕ, ◌<◌}
+use Rattle.std.proofs.Common.{ap₂, ◌∙◌, arith, ℕ, ◌<◌}
 use Rattle.std.proofs.Math.Decide.{dec_lt}
 use Rattle.algebra.specs.Sum.{sum-cong}
 use Rattle.algebra.specs.Composition as Algebra

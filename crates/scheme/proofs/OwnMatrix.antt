@@ -3,12 +3,12 @@
 -- U0, and in the ABQ stream that of A(0,1), or none. Rests on Single, Errors and Entries, and on values computed for each l.
 use Rattle.std.specs.Prelude.{◌≡◌, refl, ◌≢◌, Bool, not, List, ℕ, suc, ◌+◌, ◌*◌, ◌<◌, ◌≤◌, eqb, ltb}
 use Rattle.std.proofs.Math.Path.{sym}
-use Rattle.std.proofs.Common.{ap, ap₂, ◌∙◌, mul-le-mul_left}
+use Rattle.std.proofs.Common.{ap, ap₂, ◌∙◌, mul-le-mul_left, le-ltb, eq-eqb, ne_eqb}
 use Rattle.std.proofs.Math.Bool.{true, false}
 use Rattle.std.proofs.Math.Nat.{mul-le-mul, mul-le-mul_right, mul-pos, mod-eq_of_lt}
 use Rattle.std.proofs.Math.Decide.{dec_lt, ℕ_discrete}
 use native.Mathlib.Omega.{arith}
-use borrow.Author.Tests.{le-ltb, eq-eqb, ne_eqb, eqb-false, not-true}
+use borrow.Author.Tests.{eqb-false, not-true}
 use Rattle.ground.specs.Pick.{pick, both, both_left, both_right}
 use Rattle.ground.specs.Place.{row_fits}
 use Rattle.ground.specs.Answers.{first, met-none, met-more, first-met}

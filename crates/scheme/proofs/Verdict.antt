@@ -1,8 +1,7 @@
 -- What the verdict accepts: a target that the public map meets in every entry (page 01, "Keys, signing, verdict").
 -- A signature of zeros is accepted exactly for a target of zeros. Rests on specs/Verdict, Entries and Key.
 use Rattle.std.specs.Prelude.{◌≡◌, refl, true, ◌↔◌, List, ℕ, ◌*◌, ◌<◌}
-use Rattle.std.proofs.Common.{sym, ◌∙◌}
-use borrow.Author.Tests.{eqb-true}
+use Rattle.std.proofs.Common.{sym, ◌∙◌, eqb-true}
 use Rattle.std.proofs.Math.Arith.{digits_lt}
 use Rattle.std.proofs.Math.Dec.{eqb}
 use Rattle.ground.specs.Tests.{every}

@@ -1,6 +1,6 @@
 -- `book_writer::write_all` meets its contract: the first i fields are written, and the others are still to come. Rests on WritingAll.
 use Rattle.book_writer.specs.WritingAll.{writing-none, room, room-asks, writing-on, writing-end}
-use borrow.Author.Rules.{rules}
+use Rattle.std.proofs.Common.{rules}
 use native.Mathlib.Omega.{arith}
 use Rattle.book_writer.proofs.write_all.Goals as goal
 

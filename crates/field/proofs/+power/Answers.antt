@@ -1,5 +1,5 @@
 -- `field::power` meets its contract: the square of the power at half the exponent (`power-even`), times the base where the exponent is odd (`power-odd`).
-use mathlib.Core.Path.{ap₂, ap, ◌∙◌}
+use Rattle.std.proofs.Common.{ap₂, ap, ◌∙◌}
 use Rattle.field.specs.Field.{mul}
 use Rattle.field.specs.Powers.{power-none, power-even, power-odd}
 use Rattle.field.proofs.+power.Goals as goal

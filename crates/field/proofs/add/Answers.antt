@@ -1,5 +1,5 @@
 -- `field::add` meets its contract: the code's exclusive or is the definition's.
-use mathlib.Core.Path.{refl}
+use Rattle.std.proofs.Common.{refl}
 use Rattle.field.specs.Field.{add as sum}
 use Rattle.field.proofs.add.Goals as goal
 

@@ -1,6 +1,5 @@
 -- `field::chosen` meets its contract: the code mirrors the definition; a byte times a digit below 2 is a byte.
-use mathlib.Core.Path.{ap}
-use Prim.Native.Nat.{◌*◌, ◌/◌, ◌%◌}
+use Rattle.std.proofs.Common.{ap, ◌*◌, ◌/◌, ◌%◌}
 use lib.Bits.{bit_xor}
 use Rattle.field.specs.Field.{chosen_of}
 use Rattle.field.proofs.chosen.Goals as goal

@@ -1,6 +1,5 @@
 -- `field::low_chosen` meets its contract: b % 2 is 0 in one arm and 1 in the other.
-use mathlib.Core.Path.{◌≡◌, sym}
-use Prim.Native.Nat.{◌%◌}
+use Rattle.std.proofs.Common.{◌≡◌, sym, ◌%◌}
 use native.Mathlib.Nat.{mul-one, mul-zero}
 use native.Mathlib.Omega.{arith}
 use Rattle.field.proofs.low_chosen.Goals as goal

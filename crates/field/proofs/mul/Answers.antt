@@ -1,6 +1,6 @@
 -- `field::mul` meets its contract: the four multiples of a, those chosen that b has (`mul-chosen`).
 -- A callee with no `requires` asks nothing: `(λ _ _. tt)`.
-use mathlib.Core.Path.{refl, ◌∙◌}
+use Rattle.std.proofs.Common.{refl, ◌∙◌}
 use Rattle.field.specs.Laws.{mul-chosen}
 use Rattle.field.proofs.mul.Goals as goal
 

@@ -1,5 +1,5 @@
 -- `keccak::chi` meets its contract: the code's lanes are the definition's, written out.
-use mathlib.Core.Path.{refl}
+use Rattle.std.proofs.Common.{refl}
 use Rattle.ground.specs.Fill.{tab}
 use Rattle.keccak.specs.Keccak.{xor, and, not, rotl, lane, state, chi}
 use Rattle.keccak.specs.Lanes.{listed}

@@ -1,10 +1,8 @@
 -- `keccak::permute` meets its contract: the lanes are taken from the array, permuted and given back.
 -- Rests on what `rounds` ensures and on the two conversions.
-use mathlib.Core.Path.{◌≡◌, ◌∙◌, ap}
-use lib.ListN.{length}
+use Rattle.std.proofs.Common.{◌≡◌, ◌∙◌, ap, length, rules}
 use Rattle.keccak.specs.Keccak.{keccak_f}
 use Rattle.keccak.specs.Lanes.{listed, listed-lanes}
-use borrow.Author.Rules.{rules}
 use Rattle.keccak.proofs.permute.Goals as goal
 
 pub returns : goal.returns

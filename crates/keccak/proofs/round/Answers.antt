@@ -1,6 +1,6 @@
 -- `keccak::round` meets its contract: the five steps one after the other.
 -- Rests on what each step ensures.
-use mathlib.Core.Path.{◌∙◌, ap, ap₂}
+use Rattle.std.proofs.Common.{◌∙◌, ap, ap₂}
 use Rattle.keccak.specs.Keccak.{keccak_round, rho, pi, chi, iota}
 use Rattle.keccak.proofs.round.Goals as goal
 

@@ -1,5 +1,5 @@
 -- `keccak::rounds` meets its contract. Invariant: the state after i rounds.
-use mathlib.Core.Path.{◌≡◌, ◌∙◌, ap}
+use Rattle.std.proofs.Common.{◌≡◌, ◌∙◌, ap}
 use Rattle.keccak.specs.Keccak.{keccak_round, keccak_f, rounds-none, rounds-next}
 use native.Mathlib.Omega.{arith}
 use Rattle.keccak.proofs.rounds.Goals as goal

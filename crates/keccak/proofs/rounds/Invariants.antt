@@ -1,6 +1,5 @@
 -- `keccak::rounds` meets its contract. Invariant: the state after i rounds.
-use mathlib.Core.Path.{◌≡◌}
-use Prim.Native.Nat.{◌≤◌}
+use Rattle.std.proofs.Common.{◌≡◌, ◌≤◌}
 use Rattle.keccak.specs.Keccak.{rounds}
 use Rattle.keccak.specs.Lanes.{listed}
 use Rattle.keccak.proofs.rounds.Given as goal

@@ -1,6 +1,6 @@
 -- `keys::write_key` meets its contract: with the table of T12 filled, every element is written, and the spare half is zero. Rests on Elements.
 -- Nothing is asked of what the tables hold before.
-use mathlib.Core.Path.{◌∙◌}
+use Rattle.std.proofs.Common.{◌∙◌}
 use Rattle.packing.specs.Packing.{Bytes}
 use Rattle.sets.specs.Rooms.{kept-room, powers-room, private-room, f21-room, key-room}
 use Rattle.keys.specs.Elements.{key-whole}

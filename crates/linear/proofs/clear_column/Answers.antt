@@ -1,7 +1,6 @@
 -- `linear::clear_column` meets its contract. The invariant: the rows before row r have gained their factor times the pivot row (`PlusRows`); row r lies within the area.
 -- A turn is one gain of a whole row, right-hand element included (`gained`, `cleared-next`).
-use Prim.Native.Nat.{ℕ, ◌+◌, ◌*◌, ◌<◌}
-use lib.ListN.{length}
+use Rattle.std.proofs.Common.{ℕ, ◌+◌, ◌*◌, ◌<◌, length}
 use Rattle.std.proofs.Common.{length-set}
 use Rattle.field.specs.Field.{add}
 use Rattle.ground.specs.Place.{row_fits}

@@ -1,6 +1,5 @@
 -- `linear::clear_column` meets its contract. The invariant: the rows before row r have gained their factor times the pivot row (`PlusRows`); row r lies within the area.
-use Prim.Native.Nat.{◌+◌, ◌*◌, ◌<◌, ◌≤◌}
-use lib.ListN.{length}
+use Rattle.std.proofs.Common.{◌+◌, ◌*◌, ◌<◌, ◌≤◌, length}
 use Rattle.field.specs.Field.{mul}
 use Rattle.rows.specs.PlusRows.{PlusRows}
 use Rattle.linear.specs.System.{at}

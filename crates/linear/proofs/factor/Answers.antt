@@ -1,5 +1,5 @@
 -- `linear::factor` meets its contract: 0 for row k, else the entry in column k (`factor-here`, `factor-other`).
-use mathlib.Core.Path.{sym, ◌∙◌}
+use Rattle.std.proofs.Common.{sym, ◌∙◌}
 use Rattle.linear.specs.System.{at}
 use Rattle.linear.specs.Step.{factor-here, factor-other}
 use Rattle.linear.proofs.factor.Goals as goal

@@ -1,6 +1,5 @@
 -- `linear::load` meets its contract: zeros that gained s times row r hold s times row r (`loaded`).
-use mathlib.Core.Path.{ap, ◌∙◌}
-use Prim.Native.Nat.{◌+◌}
+use Rattle.std.proofs.Common.{ap, ◌∙◌, ◌+◌}
 use lib.ListN.{get_or-replicate}
 use Rattle.sets.specs.Sets.{most_row}
 use Rattle.field.specs.Field.{mul}

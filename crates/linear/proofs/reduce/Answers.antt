@@ -1,8 +1,5 @@
 -- `linear::reduce` meets its contract: what the loads, the stores and the clearing promise is one step of elimination (`step`).
-use mathlib.Core.Path.{◌≡◌, refl}
-use mathlib.Core.List.{List}
-use Prim.Native.Nat.{ℕ, ◌<◌}
-use lib.ListN.{length}
+use Rattle.std.proofs.Common.{◌≡◌, refl, List, ℕ, ◌<◌, length}
 use Rattle.linear.specs.System.{Area}
 use Rattle.linear.specs.Frame.{Within, within}
 use Rattle.linear.specs.Progress.{step}

@@ -1,10 +1,6 @@
 -- `linear::store` meets its contract: the elements of the row stand in row r, the right-hand element after them, and all else is as it was (`Segment`).
-use mathlib.Core.Path.{◌≡◌, sym, ap, ◌∙◌}
-use Prim.Native.Nat.{◌+◌, ◌-◌, ◌*◌}
-use lib.ListN.{get_or}
-use borrow.Author.Rules.{rules}
 use native.Mathlib.Omega.{arith}
-use Rattle.std.proofs.Common.{get_or-take}
+use Rattle.std.proofs.Common.{get_or-take, ◌≡◌, sym, ap, ◌∙◌, ◌+◌, ◌-◌, ◌*◌, get_or, rules}
 use Rattle.ground.specs.Segment.{segment-next}
 use Rattle.ground.specs.Pieces.{segment-put}
 use Rattle.linear.specs.Row.{row_at, row-element, row-right}

@@ -1,8 +1,8 @@
 -- `packing::byte_of` meets its contract: two elements in the field are joined; past the last element there is a zero.
 -- Rests on what `joined` ensures.
-use Prim.Native.Nat.{ℕ, ◌+◌, ◌*◌, ◌<◌}
+use Rattle.std.proofs.Common.{ℕ, ◌+◌, ◌*◌, ◌<◌, get_or}
 use native.Mathlib.Omega.{arith}
-use lib.ListN.{get_or, get_or-eq_default}
+use lib.ListN.{get_or-eq_default}
 use Rattle.packing.specs.Packing.{byte_of}
 use Rattle.packing.proofs.Laws.{in-field-lt}
 use Rattle.packing.proofs.byte_of.Goals as goal

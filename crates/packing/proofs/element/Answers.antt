@@ -1,7 +1,6 @@
 -- `packing::element` meets its contract: an even element is the low half of its byte, an odd one the high half.
 -- Rests on the two cases of an element by parity.
-use mathlib.Core.Path.{◌≡◌, sym, ◌∙◌}
-use Prim.Native.Nat.{◌%◌}
+use Rattle.std.proofs.Common.{◌≡◌, sym, ◌∙◌, ◌%◌}
 use native.Mathlib.Omega.{arith}
 use Rattle.packing.proofs.Laws.{element-even, element-odd}
 use Rattle.packing.proofs.element.Goals as goal

@@ -1,7 +1,6 @@
 -- `packing::joined` meets its contract: the shifted half loses nothing, and the two halves share no bit.
 -- Rests on `or_shifted_r` of lib.Bits.
-use mathlib.Core.Path.{◌≡◌, ap, ◌∙◌}
-use Prim.Native.Nat.{◌*◌, ◌%◌}
+use Rattle.std.proofs.Common.{◌≡◌, ap, ◌∙◌, ◌*◌, ◌%◌}
 use native.Mathlib.Omega.{arith}
 use lib.Bits.{bit_or, or_shifted_r}
 use Rattle.packing.proofs.joined.Goals as goal

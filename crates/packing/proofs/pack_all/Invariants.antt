@@ -1,7 +1,6 @@
 -- `packing::pack_all` meets its contract. The loop's invariant: the first j bytes are packed, and the others are as they were.
 -- Rests on ground's Segment and on what `byte_of` ensures.
-use Prim.Native.Nat.{◌≤◌}
-use lib.ListN.{length}
+use Rattle.std.proofs.Common.{◌≤◌, length}
 use Rattle.ground.specs.Segment.{Segment}
 use Rattle.packing.specs.Packing.{byte_of}
 use Rattle.packing.proofs.pack_all.Given as goal

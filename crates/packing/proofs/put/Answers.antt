@@ -1,7 +1,7 @@
 -- `packing::put` meets its contract: the byte stored has x in one half and keeps the other.
 -- Rests on `put_low` and `put-high`.
 use native.Mathlib.Omega.{arith}
-use borrow.Author.Rules.{rules}
+use Rattle.std.proofs.Common.{rules}
 use Rattle.packing.proofs.Written.{put_low, put-high}
 use Rattle.packing.proofs.put.Goals as goal
 

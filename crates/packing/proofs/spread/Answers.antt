@@ -1,8 +1,7 @@
 -- `packing::spread` meets its contract. The loop's invariant: k bytes are spread, each into its low and its high half.
-use mathlib.Core.Path.{sym, ◌∙◌}
+use Rattle.std.proofs.Common.{sym, ◌∙◌, rules}
 use Rattle.packing.proofs.Laws.{element-low, element-high}
 use Rattle.packing.specs.Spread.{spread-next}
-use borrow.Author.Rules.{rules}
 use native.Mathlib.Omega.{arith}
 use Rattle.packing.proofs.spread.Goals as goal
 

@@ -1,5 +1,5 @@
 -- `packing::spread` meets its contract. The loop's invariant: k bytes are spread, each into its low and its high half.
-use Prim.Native.Nat.{◌≤◌}
+use Rattle.std.proofs.Common.{◌≤◌}
 use Rattle.packing.specs.Spread.{Spread}
 use Rattle.packing.proofs.spread.Given as goal
 

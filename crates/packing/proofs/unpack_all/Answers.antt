@@ -1,6 +1,6 @@
 -- `packing::unpack_all` meets its contract. The loop's invariant: the first e elements are unpacked, and the others are as they were.
 -- Rests on ground's Segment and on what `element` ensures.
-use mathlib.Core.Path.{refl}
+use Rattle.std.proofs.Common.{refl}
 use Rattle.ground.specs.Segment.{fill_end}
 use Rattle.packing.specs.Packing.{packed_bytes, unpacked}
 use native.Mathlib.Omega.{arith}

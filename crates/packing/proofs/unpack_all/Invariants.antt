@@ -1,7 +1,6 @@
 -- `packing::unpack_all` meets its contract. The loop's invariant: the first e elements are unpacked, and the others are as they were.
 -- Rests on ground's Segment and on what `element` ensures.
-use Prim.Native.Nat.{◌≤◌}
-use lib.ListN.{length}
+use Rattle.std.proofs.Common.{◌≤◌, length}
 use Rattle.ground.specs.Segment.{Segment}
 use Rattle.packing.specs.Packing.{element}
 use Rattle.packing.proofs.unpack_all.Given as goal

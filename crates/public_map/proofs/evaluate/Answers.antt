@@ -1,5 +1,5 @@
 -- `public_map::evaluate` meets its contract: the two tables, and the equations from them (`map-values`).
-use mathlib.Core.Path.{◌∙◌}
+use Rattle.std.proofs.Common.{◌∙◌}
 use Rattle.rows.specs.Zero.{length-zeros}
 use Rattle.sets.specs.Rooms.{list_powers_room, power_sums_room, list-powers-room, sums-room}
 use Rattle.tables.specs.Unpacked.{list_of}

@@ -1,5 +1,5 @@
 -- Invariant: the reader here, fed the rest of the piece, is the reader fed all. Rests on part-fed, part-moves and fed-all.
-use mathlib.Core.Path.{refl, sym, ◌∙◌}
+use Rattle.std.proofs.Common.{refl, sym, ◌∙◌}
 use Rattle.response_machine.proofs.Reading.{part-fed, part-moves, fed-all}
 use native.Mathlib.Omega.{arith}
 use Rattle.read_responses.proofs.show.Goals as goal

@@ -1,7 +1,5 @@
 -- Invariant: the reader here, fed the rest of the piece, is the reader fed all. The place goes up.
-use mathlib.Core.Path.{◌≡◌}
-use Prim.Native.Nat.{◌-◌}
-use lib.ListN.{length, drop}
+use Rattle.std.proofs.Common.{◌≡◌, ◌-◌, length, drop}
 use Rattle.response_machine.specs.Reads.{fed}
 use Rattle.read_responses.proofs.show.Given as goal
 

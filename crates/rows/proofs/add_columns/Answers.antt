@@ -1,6 +1,5 @@
 -- `rows::add_columns` meets its contract. The loop's invariant: x rows are added, and `from` is where the next begins. Rests on the laws of Combine.
-use mathlib.Core.Path.{refl}
-use borrow.Author.Rules.{rules}
+use Rattle.std.proofs.Common.{refl, rules}
 use Rattle.rows.specs.Combine.{combining-none, combining-next}
 use Rattle.rows.proofs.add_columns.Goals as goal
 

@@ -1,6 +1,5 @@
 -- `rows::add_columns` meets its contract. The loop's invariant: x rows are added, and `from` is where the next begins. Rests on the laws of Combine.
-use Prim.Native.Nat.{◌+◌, ◌*◌}
-use lib.ListN.{get_or}
+use Rattle.std.proofs.Common.{◌+◌, ◌*◌, get_or}
 use Rattle.rows.specs.Combine.{Combining}
 use Rattle.rows.proofs.add_columns.Given as goal
 

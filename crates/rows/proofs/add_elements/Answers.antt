@@ -1,6 +1,6 @@
 -- `rows::add_elements` meets its contract. The loop's invariant: dst is the row at entry with the first c elements gained (`plus-next`).
 use native.Mathlib.Omega.{arith}
-use borrow.Author.Rules.{rules}
+use Rattle.std.proofs.Common.{rules}
 use Rattle.field.specs.Field.{add}
 use Rattle.rows.specs.Plus.{plus-next}
 use Rattle.rows.proofs.add_elements.Goals as goal

@@ -1,5 +1,5 @@
 -- `rows::add_elements` meets its contract. The loop's invariant: dst is the row at entry with the first c elements gained (`plus-next`).
-use Prim.Native.Nat.{◌+◌, ◌≤◌}
+use Rattle.std.proofs.Common.{◌+◌, ◌≤◌}
 use Rattle.packing.specs.Packing.{element}
 use Rattle.rows.specs.Plus.{Plus}
 use Rattle.rows.proofs.add_elements.Given as goal

@@ -1,6 +1,5 @@
 -- `rows::add_scaled` meets its contract. The loop's invariant: dst is the row at entry with the first i bytes gained. The byte gained is s · b (`mul-chosen`).
-use Prim.Native.Nat.{◌+◌, ◌≤◌}
-use lib.ListN.{get_or}
+use Rattle.std.proofs.Common.{◌+◌, ◌≤◌, get_or}
 use Rattle.field.specs.Field.{mul}
 use Rattle.rows.specs.Plus.{Plus}
 use Rattle.rows.proofs.add_scaled.Given as goal

@@ -1,6 +1,5 @@
 -- `rows::put_row` meets its contract. The loop's invariant: the first e elements are written (packing's `written_next`).
-use Prim.Native.Nat.{◌+◌, ◌≤◌}
-use lib.ListN.{get_or}
+use Rattle.std.proofs.Common.{◌+◌, ◌≤◌, get_or}
 use Rattle.packing.specs.Written.{Written}
 use Rattle.rows.proofs.put_row.Given as goal
 

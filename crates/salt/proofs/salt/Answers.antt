@@ -1,6 +1,5 @@
 -- `salt::salt` meets its contract: the part from 16 bytes before the end, or from the end on, by what the rules of sets say of the length.
-use mathlib.Core.Path.{refl, sym, ap, ◌∙◌}
-use lib.ListN.{drop}
+use Rattle.std.proofs.Common.{refl, sym, ap, ◌∙◌, drop}
 use Rattle.ground.specs.AnswerLaws.{answer-done, answer-refused}
 use Rattle.salt.specs.Salt.{salt_of, salt-long, part-from, start-done, start-refused}
 use native.Mathlib.Omega.{arith}

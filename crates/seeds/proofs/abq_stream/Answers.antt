@@ -1,8 +1,6 @@
 -- `seeds::abq_stream` meets its contract: l decides where the bytes come from, and a set that is not allowed leaves the buffer as it was.
 -- Rests on what `sets::allowed` and `sets::public_bytes`, `shake256` and `expand` ensure, and on the two ways of Streams.
-use mathlib.Core.Path.{◌≡◌, sym, ap, ◌∙◌}
-use mathlib.Core.Bool.{true, false}
-use lib.ListN.{length}
+use Rattle.std.proofs.Common.{◌≡◌, sym, ap, ◌∙◌, true, false, length}
 use Rattle.ground.specs.Pick.{pick}
 use Rattle.sets.specs.Sets.{allowed_set, public_bytes}
 use Rattle.seeds.specs.Seeds.{expanded, letters}

@@ -1,6 +1,6 @@
 -- `seeds::message` meets its contract: a sponge that took the three pieces holds the message.
 -- Rests on shake's laws of a message in pieces.
-use borrow.Author.Rules.{rules}
+use Rattle.std.proofs.Common.{rules}
 use Rattle.shake.specs.FeedLaws.{holds-first, holds_more}
 use Rattle.seeds.specs.Seeds.{target_message}
 use Rattle.seeds.proofs.message.Goals as goal

@@ -1,9 +1,7 @@
 -- `shake::absorb` meets its contract. Invariant: to feed the rest of the input leads where feeding the whole of it led.
 -- Rests on the laws of feeding a byte, and on what `add_byte` and `permute` ensure.
-use mathlib.Core.Path.{◌≡◌, sym, ap, ap₂, ◌∙◌}
+use Rattle.std.proofs.Common.{◌≡◌, sym, ap, ap₂, ◌∙◌, ◌+◌, ◌<◌, get_or, drop}
 use Rattle.keccak.specs.Keccak.{keccak_f}
-use Prim.Native.Nat.{◌+◌, ◌<◌}
-use lib.ListN.{get_or, drop}
 use Rattle.shake.specs.Feed.{fed, fed_byte}
 use Rattle.shake.specs.FeedLaws.{at as sponge-at, fed-none, fed-next, turned-full, turned-within}
 use native.Mathlib.Omega.{arith}

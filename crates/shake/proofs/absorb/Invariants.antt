@@ -1,8 +1,6 @@
 -- `shake::absorb` meets its contract. Invariant: to feed the rest of the input leads where feeding the whole of it led.
 -- Rests on the laws of feeding a byte, and on what `add_byte` and `permute` ensure.
-use mathlib.Core.Path.{◌≡◌}
-use Prim.Native.Nat.{◌<◌}
-use lib.ListN.{drop}
+use Rattle.std.proofs.Common.{◌≡◌, ◌<◌, drop}
 use Rattle.shake.specs.Feed.{fed}
 use Rattle.shake.specs.FeedLaws.{at as sponge-at}
 use Rattle.shake.proofs.absorb.Given as goal

@@ -1,10 +1,8 @@
 -- `shake::add_byte` meets its contract: the byte, shifted to its place in the lane, does not reach beyond the lane.
-use mathlib.Core.Path.{◌≡◌}
-use Prim.Native.Nat.{◌*◌, ◌%◌, ◌^◌}
+use Rattle.std.proofs.Common.{◌≡◌, ◌*◌, ◌%◌, ◌^◌, rules}
 use lib.Pow.{shl_exact}
 use Rattle.shake.specs.Sponge.{add_byte}
 use native.Mathlib.Omega.{arith}
-use borrow.Author.Rules.{rules}
 use Rattle.shake.proofs.add_byte.Goals as goal
 
 pub returns : goal.returns

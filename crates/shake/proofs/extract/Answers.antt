@@ -1,7 +1,6 @@
 -- `shake::extract` meets its contract: what is squeezed from the finished state.
 -- Rests on what `finish` and `squeeze` ensure.
-use mathlib.Core.Path.{ap, ◌∙◌}
-use lib.ListN.{length}
+use Rattle.std.proofs.Common.{ap, ◌∙◌, length}
 use Rattle.ground.specs.Fill.{tab}
 use Rattle.shake.specs.Sponge.{squeezed}
 use Rattle.shake.specs.Feed.{output}

@@ -1,7 +1,6 @@
 -- `shake::finish` meets its contract: one byte 9F where the block lacks one byte, otherwise 1F and, in the block's last byte, 80.
 -- Rests on the two ways of `finished`.
-use mathlib.Core.Path.{sym, ap, ◌∙◌}
-use Prim.Native.Nat.{◌-◌}
+use Rattle.std.proofs.Common.{sym, ap, ◌∙◌, ◌-◌}
 use Rattle.keccak.specs.Keccak.{keccak_f}
 use Rattle.shake.specs.Sponge.{add_byte}
 use Rattle.shake.specs.FeedLaws.{finished-one, finished-more}

@@ -1,5 +1,5 @@
 -- `shake::fresh` meets its contract: the code's sponge is the definition's, written out.
-use mathlib.Core.Path.{refl}
+use Rattle.std.proofs.Common.{refl}
 use Rattle.shake.specs.Feed.{fresh}
 use Rattle.shake.proofs.fresh.Goals as goal
 

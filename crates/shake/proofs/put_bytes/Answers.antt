@@ -1,10 +1,6 @@
 -- `shake::put_bytes` meets its contract: the first bytes of a lane are written into the part. Rests on ground's Pieces and on LaneBytes.
-use mathlib.Core.Path.{◌≡◌, ap, ◌∙◌}
-use Prim.Native.Nat.{◌+◌, ◌-◌}
-use lib.ListN.{get_or}
 use native.Mathlib.Omega.{arith}
-use borrow.Author.Rules.{rules}
-use Rattle.std.proofs.Common.{get_or-take}
+use Rattle.std.proofs.Common.{get_or-take, ◌≡◌, ap, ◌∙◌, ◌+◌, ◌-◌, get_or, rules}
 use Rattle.ground.specs.Pieces.{segment-put}
 use Rattle.shake.specs.LaneBytes.{lane-bytes-at}
 use Rattle.shake.proofs.put_bytes.Goals as goal

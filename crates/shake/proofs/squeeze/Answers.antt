@@ -1,10 +1,7 @@
 -- `shake::squeeze` meets its contract. Invariant: the bytes of the first parts are written, and the output goes on with byte `at` of the present state.
 -- Rests on the two laws of squeezing: behind a whole block, and the bytes of a lane.
-use mathlib.Core.Path.{◌≡◌, refl, sym, ap, ap₂, subst, ◌∙◌}
-use mathlib.Core.List.{List}
-use Prim.Native.Nat.{ℕ, ◌+◌, ◌-◌, ◌*◌, ◌/◌, ◌%◌, ◌<◌, min}
+use Rattle.std.proofs.Common.{◌≡◌, refl, sym, ap, ap₂, subst, ◌∙◌, List, ℕ, ◌+◌, ◌-◌, ◌*◌, ◌/◌, ◌%◌, ◌<◌, min, length, get_or}
 use native.Mathlib.Nat.{zero-add, add_assoc}
-use lib.ListN.{length, get_or}
 use Rattle.keccak.specs.Keccak.{keccak_f}
 use Rattle.ground.specs.Segment.{Segment, fill_end}
 use Rattle.shake.specs.Sponge.{lane_byte, squeezed}

@@ -1,8 +1,6 @@
 -- `shake::squeeze` meets its contract. Invariant: the bytes of the first parts are written, and the output goes on with byte `at` of the present state.
 -- Rests on the two laws of squeezing: behind a whole block, and the bytes of a lane.
-use mathlib.Core.Path.{◌≡◌}
-use Prim.Native.Nat.{ℕ, ◌+◌, ◌*◌, ◌%◌, ◌≤◌, min}
-use lib.ListN.{length}
+use Rattle.std.proofs.Common.{◌≡◌, ℕ, ◌+◌, ◌*◌, ◌%◌, ◌≤◌, min, length}
 use Rattle.ground.specs.Segment.{Segment}
 use Rattle.shake.specs.Sponge.{squeezed}
 use Rattle.shake.proofs.squeeze.Given as goal

@@ -1,6 +1,5 @@
 -- `signing::sign_lent` meets its contract. What solving found decides: the signature is written, or nothing; then the work area is cleared. Rests on Outcomes.
-use mathlib.Core.Path.{ap, ◌∙◌}
-use borrow.Author.Rules.{rules}
+use Rattle.std.proofs.Common.{ap, ◌∙◌, rules}
 use Rattle.checks.specs.Lent.{sign-lent}
 use Rattle.rows.specs.Zero.{zeros}
 use Rattle.signing.specs.Emitting.{some-l, output-length, system-within}

@@ -1,5 +1,5 @@
 -- `tables::add_block_row` meets its contract. The invariant: the rows of the first k blocks are added, side by side. Rests on Gains and Turns.
-use mathlib.Core.Path.{refl}
+use Rattle.std.proofs.Common.{refl}
 use Rattle.ground.specs.Place.{row_fits}
 use Rattle.tables.specs.Gains.{rowing-next, rowing-end}
 use Rattle.tables.specs.Turns.{BlockTurn, block-turn}

@@ -1,10 +1,8 @@
 -- `words::add_word` meets its contract. The loop's invariant: the first c elements are added, and the elements of `rest` are those behind them.
-use mathlib.Core.Path.{sym, ap, ◌∙◌}
-use Prim.Native.Nat.{suc}
+use Rattle.std.proofs.Common.{sym, ap, ◌∙◌, suc, rules}
 use Rattle.rows.specs.Plus.{plus-next}
 use Rattle.field.specs.Field.{add}
 use Rattle.words.specs.Words.{nibble, nibble-first, nibble-next}
-use borrow.Author.Rules.{rules}
 use native.Mathlib.Omega.{arith}
 use Rattle.words.proofs.add_word.Goals as goal
 

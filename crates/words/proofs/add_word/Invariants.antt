@@ -1,6 +1,5 @@
 -- `words::add_word` meets its contract. The loop's invariant: the first c elements are added, and the elements of `rest` are those behind them.
-use mathlib.Core.Path.{◌≡◌}
-use Prim.Native.Nat.{ℕ, ◌+◌, ◌≤◌}
+use Rattle.std.proofs.Common.{◌≡◌, ℕ, ◌+◌, ◌≤◌}
 use Rattle.rows.specs.Plus.{Plus}
 use Rattle.words.specs.Words.{nibble}
 use Rattle.words.proofs.add_word.Given as goal

@@ -1,6 +1,5 @@
 -- `words::looked_up` meets its contract. The loop's invariant: w is the sum of the first x products, each of two look-ups.
-use mathlib.Core.Path.{sym}
-use borrow.Author.Rules.{rules}
+use Rattle.std.proofs.Common.{sym, rules}
 use Rattle.field.specs.Field.{add}
 use Rattle.words.specs.Lookups.{looked_up, lookups-none, lookups-next}
 use Rattle.words.proofs.looked_up.Goals as goal

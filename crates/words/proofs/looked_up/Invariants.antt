@@ -1,6 +1,5 @@
 -- `words::looked_up` meets its contract. The loop's invariant: w is the sum of the first x products, each of two look-ups.
-use mathlib.Core.Path.{◌≡◌}
-use Prim.Native.Nat.{◌≤◌}
+use Rattle.std.proofs.Common.{◌≡◌, ◌≤◌}
 use Rattle.words.specs.Lookups.{lookups}
 use Rattle.words.proofs.looked_up.Given as goal
 

@@ -1,9 +1,7 @@
 -- `words::multiple` meets its contract. The loop's invariant: w is the word of the multiples of the bytes from c on.
-use mathlib.Core.Path.{◌≡◌, sym, ap, ◌∙◌}
-use Prim.Native.Nat.{◌^◌, ◌<◌}
+use Rattle.std.proofs.Common.{◌≡◌, sym, ap, ◌∙◌, ◌^◌, ◌<◌, rules}
 use Rattle.field.specs.Laws.{mul-lt}
 use Rattle.words.specs.Multiples.{multiple_from, multiple-none, multiple-next, multiple-end, multiple-room}
-use borrow.Author.Rules.{rules}
 use native.Mathlib.Omega.{arith}
 use Rattle.words.proofs.multiple.Goals as goal
 

@@ -1,6 +1,5 @@
 -- `words::multiple` meets its contract. The loop's invariant: w is the word of the multiples of the bytes from c on.
-use mathlib.Core.Path.{◌≡◌}
-use Prim.Native.Nat.{◌≤◌}
+use Rattle.std.proofs.Common.{◌≡◌, ◌≤◌}
 use Rattle.words.specs.Multiples.{multiple_from}
 use Rattle.words.proofs.multiple.Given as goal
 

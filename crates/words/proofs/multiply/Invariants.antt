@@ -1,5 +1,5 @@
 -- `words::multiply` meets its contract. The loop's invariant: the first k words are made.
-use Prim.Native.Nat.{◌≤◌}
+use Rattle.std.proofs.Common.{◌≤◌}
 use Rattle.words.specs.Multiples.{Multiplying}
 use Rattle.words.proofs.multiply.Given as goal
 

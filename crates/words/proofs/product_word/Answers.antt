@@ -1,8 +1,7 @@
 -- `words::product_word` meets its contract. The loop's invariant: the first x columns of the matrices are done.
-use mathlib.Core.Path.{sym}
+use Rattle.std.proofs.Common.{sym, rules}
 use Rattle.field.specs.Field.{add}
 use Rattle.words.specs.Lookups.{columns-none, columns-next}
-use borrow.Author.Rules.{rules}
 use Rattle.words.proofs.product_word.Goals as goal
 
 pub loop-x-init : goal.loop-x-init

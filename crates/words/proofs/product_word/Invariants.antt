@@ -1,6 +1,5 @@
 -- `words::product_word` meets its contract. The loop's invariant: the first x columns of the matrices are done.
-use mathlib.Core.Path.{◌≡◌}
-use Prim.Native.Nat.{◌≤◌}
+use Rattle.std.proofs.Common.{◌≡◌, ◌≤◌}
 use Rattle.words.specs.Lookups.{column_lookups}
 use Rattle.words.proofs.product_word.Given as goal
 

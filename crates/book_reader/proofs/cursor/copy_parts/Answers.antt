@@ -1,5 +1,5 @@
 -- `book_reader::copy_parts` meets its contract: what is still to be copied, so that the whole is. Rests on Parts.
-use mathlib.Core.Path.{sym, ◌∙◌}
+use Rattle.std.proofs.Common.{sym, ◌∙◌}
 use Rattle.book_reader.specs.Parts.{copy-room, copy-none, copy-asks, copy-next, copy-end}
 use Rattle.book_reader.specs.Told.{bytes-none}
 use native.Mathlib.Omega.{arith}

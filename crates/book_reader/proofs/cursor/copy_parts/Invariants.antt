@@ -1,6 +1,5 @@
 -- `book_reader::copy_parts` meets its contract: what is still to be copied, so that the whole is. Rests on Parts.
-use Prim.Native.Nat.{◌-◌, ◌/◌}
-use lib.ListN.{length}
+use Rattle.std.proofs.Common.{◌-◌, ◌/◌, length}
 use Rattle.book_reader.specs.Parts.{Copying}
 use Rattle.book_reader.proofs.cursor.copy_parts.Given as goal
 

@@ -1,6 +1,5 @@
 -- `book_reader::field_at` meets its contract: from block b + 1 up to i the field goes on. Rests on Parts.
-use mathlib.Core.Path.{sym, ap, ◌∙◌}
-use lib.ListN.{length}
+use Rattle.std.proofs.Common.{sym, ap, ◌∙◌, length}
 use Rattle.book_reader.specs.Parts.{run_none, run-next, run_small, run_end, end-at}
 use native.Mathlib.Omega.{arith}
 use Rattle.book_reader.proofs.cursor.field_at.Goals as goal

@@ -1,6 +1,5 @@
 -- `book_reader::field_at` meets its contract: from block b + 1 up to i the field goes on. Rests on Parts.
-use Prim.Native.Nat.{◌-◌, ◌/◌}
-use lib.ListN.{length}
+use Rattle.std.proofs.Common.{◌-◌, ◌/◌, length}
 use Rattle.book_reader.specs.Parts.{Run}
 use Rattle.book_reader.proofs.cursor.field_at.Given as goal
 

@@ -1,5 +1,5 @@
 -- `book_reader::part` meets its contract: the payload of block b, or the empty end; place and contents. Rests on Parts.
-use mathlib.Core.Path.{refl, ap, ◌∙◌}
+use Rattle.std.proofs.Common.{refl, ap, ◌∙◌}
 use Rattle.blocks.specs.Block.{size_of}
 use Rattle.book_reader.specs.Parts.{no_part, no_start, a-start, part_cut}
 use native.Mathlib.Omega.{arith}

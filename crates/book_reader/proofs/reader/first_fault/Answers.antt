@@ -1,12 +1,9 @@
 -- `book_reader::first_fault` meets its contract: the blocks before b are passed, and `before` is the head of the last of them. Rests on Passed.
-use Prim.Native.Nat.{◌/◌, ◌≤◌}
-use lib.ListN.{length}
 use Rattle.books.specs.Book.{whole_says}
 use Rattle.book_reader.specs.Passed.{passed_none, passed-next, passed-stop, passed-end}
-use Rattle.std.proofs.Common.{sym, ap, ◌∙◌}
+use Rattle.std.proofs.Common.{sym, ap, ◌∙◌, ◌/◌, ◌≤◌, length, rules}
 use Rattle.ground.specs.Answers.{number_of}
 use Rattle.ground.specs.AnswerLaws.{code-some}
-use borrow.Author.Rules.{rules}
 use native.Mathlib.Omega.{arith}
 use Rattle.book_reader.proofs.reader.first_fault.Goals as goal
 

@@ -1,5 +1,5 @@
 -- `book_writer::count_blocks` meets its contract: the blocks of the first i fields, or 65,537 where there are more. Rests on Lists.
-use mathlib.Core.Path.{refl}
+use Rattle.std.proofs.Common.{refl}
 use Rattle.book_writer.specs.Lists.{blocks, blocks_more}
 use native.Mathlib.Omega.{arith}
 use Rattle.book_writer.proofs.lists.count_blocks.Goals as goal

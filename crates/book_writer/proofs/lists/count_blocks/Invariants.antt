@@ -1,6 +1,5 @@
 -- `book_writer::count_blocks` meets its contract: the blocks of the first i fields, or 65,537 where there are more. Rests on Lists.
-use Prim.Native.Nat.{min}
-use mathlib.Core.Path.{◌≡◌}
+use Rattle.std.proofs.Common.{min, ◌≡◌}
 use Rattle.book_writer.specs.Lists.{blocks}
 use Rattle.book_writer.proofs.lists.count_blocks.Given as goal
 

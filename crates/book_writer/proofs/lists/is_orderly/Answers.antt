@@ -1,6 +1,6 @@
 -- `book_writer::is_orderly` meets its contract: the first i fields are in order. Rests on Lists.
 use Rattle.book_writer.specs.Lists.{ordered-none, ordered-next, ordered-stop, ordered_end}
-use borrow.Author.Rules.{rules}
+use Rattle.std.proofs.Common.{rules}
 use Rattle.book_writer.proofs.lists.is_orderly.Goals as goal
 
 pub loop-i-init : goal.loop-i-init

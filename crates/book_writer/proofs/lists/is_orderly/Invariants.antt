@@ -1,5 +1,5 @@
 -- `book_writer::is_orderly` meets its contract: the first i fields are in order. Rests on Lists.
-use lib.ListN.{length}
+use Rattle.std.proofs.Common.{length}
 use Rattle.book_writer.specs.Lists.{Ordered}
 use Rattle.book_writer.proofs.lists.is_orderly.Given as goal
 

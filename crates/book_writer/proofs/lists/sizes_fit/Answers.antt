@@ -1,8 +1,5 @@
 -- `book_writer::sizes_fit` meets its contract: the sum of the first i sizes is within the bytes. Rests on Lists.
-use Prim.Native.Nat.{◌+◌}
-use mathlib.Core.Path.{◌≡◌, refl, sym}
-use borrow.Author.Tests.{ne_eqb}
-use lib.ListN.{length}
+use Rattle.std.proofs.Common.{◌+◌, ◌≡◌, refl, sym, ne_eqb, length}
 use Rattle.book_writer.specs.Lists.{total, total-more, total-up}
 use native.Mathlib.Omega.{arith}
 use Rattle.book_writer.proofs.lists.sizes_fit.Goals as goal

@@ -1,6 +1,5 @@
 -- `book_writer::sizes_fit` meets its contract: the sum of the first i sizes is within the bytes. Rests on Lists.
-use Prim.Native.Nat.{◌≤◌}
-use mathlib.Core.Path.{◌≡◌}
+use Rattle.std.proofs.Common.{◌≤◌, ◌≡◌}
 use Rattle.book_writer.specs.Lists.{total}
 use Rattle.book_writer.proofs.lists.sizes_fit.Given as goal
 

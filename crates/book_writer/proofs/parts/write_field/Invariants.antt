@@ -1,6 +1,5 @@
 -- `book_writer::write_field` meets its contract: the first n parts are written, and the others are still to come. Rests on books' Going.
-use Prim.Native.Nat.{◌+◌, ◌-◌, ◌*◌, ◌≤◌}
-use lib.ListN.{drop}
+use Rattle.std.proofs.Common.{◌+◌, ◌-◌, ◌*◌, ◌≤◌, drop}
 use Rattle.books.specs.Going.{Going, cut_n}
 use Rattle.book_writer.proofs.parts.write_field.Given as goal
 

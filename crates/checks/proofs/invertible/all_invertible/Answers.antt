@@ -1,11 +1,9 @@
 -- `checks::all_invertible` meets its contract. The invariant: the first b blocks pass; the first that does not decides.
-use mathlib.Core.Path.{ap}
-use Prim.Native.Nat.{◌*◌, ◌<◌}
+use Rattle.std.proofs.Common.{ap, ◌*◌, ◌<◌, rules}
 use Rattle.sets.specs.Sets.{all_terms}
 use Rattle.streams.specs.TermPlaces.{size-allowed, block_within}
 use Rattle.checks.specs.Passing.{passing-none, passing-next, passing-end, passing-stops}
 use native.Mathlib.Omega.{arith}
-use borrow.Author.Rules.{rules}
 use Rattle.sets.specs.Numbers.{numbers}
 use Rattle.sets.proofs.Bounds.{bounds_of}
 use Rattle.checks.proofs.invertible.all_invertible.Goals as goal

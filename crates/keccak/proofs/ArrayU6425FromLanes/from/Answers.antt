@@ -1,5 +1,5 @@
 -- `<[u64; 25]>::from` meets its contract: the code's lanes are the definition's, written out.
-use mathlib.Core.Path.{refl}
+use Rattle.std.proofs.Common.{refl}
 use Rattle.keccak.specs.Lanes.{listed}
 use Rattle.keccak.proofs.ArrayU6425FromLanes.from.Goals as goal
 

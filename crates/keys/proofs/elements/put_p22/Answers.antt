@@ -1,6 +1,5 @@
 -- `keys::elements::put_p22` meets its contract. The invariant: the first q rows of l elements are written. Rests on Elements and Places.
-use mathlib.Core.Path.{refl}
-use Prim.Native.Nat.{◌+◌}
+use Rattle.std.proofs.Common.{refl, ◌+◌}
 use Rattle.sets.specs.Bounds.{Products}
 use Rattle.keys.specs.KeyPlaces.{PutTurn, put-turn, key-within}
 use Rattle.keys.specs.Elements.{row_place, putting-none, putting-next, putting-end}

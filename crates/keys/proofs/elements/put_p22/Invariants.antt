@@ -1,5 +1,5 @@
 -- `keys::elements::put_p22` meets its contract. The invariant: the first q rows of l elements are written. Rests on Elements and Places.
-use Prim.Native.Nat.{◌-◌}
+use Rattle.std.proofs.Common.{◌-◌}
 use Rattle.keys.specs.Elements.{Putting}
 use Rattle.keys.proofs.elements.put_p22.Given as goal
 

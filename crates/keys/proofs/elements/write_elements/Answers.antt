@@ -1,5 +1,5 @@
 -- `keys::elements::write_elements` meets its contract. The invariant: the elements of the first i equations are written. Rests on Elements and Parts.
-use mathlib.Core.Path.{refl, ◌∙◌}
+use Rattle.std.proofs.Common.{refl, ◌∙◌}
 use Rattle.keys.specs.Parts.{f21-holds, p22-holds}
 use Rattle.keys.specs.Elements.{writing-none, writing-next, writing-end}
 use native.Mathlib.Omega.{arith}

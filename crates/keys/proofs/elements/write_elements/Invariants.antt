@@ -1,6 +1,5 @@
 -- `keys::elements::write_elements` meets its contract. The invariant: the elements of the first i equations are written. Rests on Elements and Parts.
-use mathlib.Core.Path.{◌≡◌}
-use lib.ListN.{length}
+use Rattle.std.proofs.Common.{◌≡◌, length}
 use Rattle.keys.specs.Elements.{Writing}
 use Rattle.sets.specs.Numbers.{numbers}
 use Rattle.keys.proofs.elements.write_elements.Given as goal

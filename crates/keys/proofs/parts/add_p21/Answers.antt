@@ -1,5 +1,5 @@
 -- `keys::parts::add_p21` meets its contract. The invariant: the first y rows have gained theirs. Rests on Parts, Places and tables' Table.
-use mathlib.Core.Path.{refl}
+use Rattle.std.proofs.Common.{refl}
 use Rattle.tables.specs.Table.{filling-none, filling-next, filling-end}
 use Rattle.streams.specs.Numbers.{public-within}
 use Rattle.keys.specs.KeyPlaces.{RowTurn, row-turn}

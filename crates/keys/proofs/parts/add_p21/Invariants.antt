@@ -1,5 +1,5 @@
 -- `keys::parts::add_p21` meets its contract. The invariant: the first y rows have gained theirs. Rests on Parts, Places and tables' Table.
-use Prim.Native.Nat.{◌*◌}
+use Rattle.std.proofs.Common.{◌*◌}
 use Rattle.tables.specs.Table.{Filling}
 use Rattle.keys.specs.Parts.{p21_row}
 use Rattle.sets.specs.Numbers.{numbers}

@@ -1,5 +1,5 @@
 -- `keys::parts::f21_table` meets its contract: zeros gain P21, then T12 transposed times P11. Rests on Parts and tables' Rooms and Numbers.
-use Prim.Native.Nat.{◌*◌}
+use Rattle.std.proofs.Common.{◌*◌}
 use Rattle.streams.specs.Numbers.{public-places, number-within}
 use Rattle.sets.specs.Rooms.{kept-room, v-blocks-room}
 use Rattle.keys.specs.KeyPlaces.{some-v, some-l}

@@ -1,5 +1,5 @@
 -- `keys::parts::p22_table` meets its contract: zeros gain T12 transposed times P12, then F21 times T12. Rests on Parts and tables' Rooms and Numbers.
-use Prim.Native.Nat.{◌*◌}
+use Rattle.std.proofs.Common.{◌*◌}
 use Rattle.streams.specs.Numbers.{public-places, number-within}
 use Rattle.sets.specs.Rooms.{kept-room, o-blocks-room}
 use Rattle.keys.specs.KeyPlaces.{some-v, some-o, some-l}

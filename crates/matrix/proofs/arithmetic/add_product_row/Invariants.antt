@@ -1,5 +1,5 @@
 -- `matrix::arithmetic::add_product_row` meets its contract. The invariant: the row has gained the first y terms of each entry. Rests on BlockRows.
-use Prim.Native.Nat.{◌*◌, ◌≤◌}
+use Rattle.std.proofs.Common.{◌*◌, ◌≤◌}
 use Rattle.rows.specs.Plus.{Plus}
 use Rattle.matrix.specs.Matrix.{mul_m}
 use Rattle.matrix.specs.Block.{view, stride}

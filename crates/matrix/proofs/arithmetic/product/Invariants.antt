@@ -1,7 +1,5 @@
 -- `matrix::arithmetic::product` meets its contract. The invariant: the first r rows have gained theirs. Rests on BlockRows.
-use mathlib.Core.Path.{◌≡◌}
-use Prim.Native.Nat.{◌≤◌}
-use lib.ListN.{length}
+use Rattle.std.proofs.Common.{◌≡◌, ◌≤◌, length}
 use Rattle.rows.specs.Zero.{zeros}
 use Rattle.matrix.specs.Matrix.{mul_m}
 use Rattle.matrix.specs.Block.{view, block_bytes, stride}

@@ -1,5 +1,5 @@
 -- `matrix::inside` meets its contract: the two tests are those of the definition.
-use borrow.Author.Tests.{lt-ltb, le-ltb}
+use Rattle.std.proofs.Common.{lt-ltb, le-ltb}
 use Rattle.matrix.specs.Block.{inside}
 use Rattle.matrix.proofs.blocks.inside.Goals as goal
 

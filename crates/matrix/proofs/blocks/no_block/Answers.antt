@@ -1,5 +1,5 @@
 -- `matrix::no_block` meets its contract: the 25 zeros are those of the definition.
-use mathlib.Core.Path.{refl}
+use Rattle.std.proofs.Common.{refl}
 use Rattle.ground.specs.Fill.{tab}
 use Rattle.matrix.specs.Promises.{no_block}
 use Rattle.matrix.proofs.blocks.no_block.Goals as goal

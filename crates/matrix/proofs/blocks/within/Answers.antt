@@ -1,6 +1,5 @@
 -- `matrix::within` meets its contract: each branch is one case of the pick.
-use mathlib.Core.Path.{◌≡◌, sym, ◌∙◌}
-use mathlib.Core.Bool.{true, false}
+use Rattle.std.proofs.Common.{◌≡◌, sym, ◌∙◌, true, false}
 use Rattle.matrix.specs.Block.{inside}
 use Rattle.matrix.proofs.blocks.within.Goals as goal
 

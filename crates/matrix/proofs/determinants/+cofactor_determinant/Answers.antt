@@ -1,6 +1,5 @@
 -- `matrix::determinant` and `matrix::cofactor` meet their contracts.
-use mathlib.Core.Path.{◌≡◌, sym, ap, ap₂, ◌∙◌}
-use Prim.Native.Nat.{◌-◌}
+use Rattle.std.proofs.Common.{◌≡◌, sym, ap, ap₂, ◌∙◌, ◌-◌}
 use native.Mathlib.Omega.{arith}
 use Rattle.field.specs.Field.{add, mul}
 use Rattle.matrix.specs.Determinant.{det, minor, det-same}

@@ -1,6 +1,5 @@
 -- The measures are 2n + 1 and 2n: a cofactor of size n is a determinant of size n - 1. The invariant: the sum so far is that of the column's first r terms (`column`).
-use mathlib.Core.Path.{◌≡◌}
-use Prim.Native.Nat.{◌+◌, ◌≤◌}
+use Rattle.std.proofs.Common.{◌≡◌, ◌+◌, ◌≤◌}
 use Rattle.matrix.specs.Block.{view}
 use Rattle.matrix.specs.Steps.{column}
 use Rattle.matrix.proofs.determinants.+cofactor_determinant.Given as goal

@@ -1,5 +1,5 @@
 -- `matrix::skip` meets its contract: each branch is one case of the pick.
-use borrow.Author.Tests.{lt-ltb, le-ltb}
+use Rattle.std.proofs.Common.{lt-ltb, le-ltb}
 use Rattle.matrix.specs.Determinant.{skip}
 use Rattle.matrix.proofs.determinants.skip.Goals as goal
 

@@ -1,5 +1,5 @@
 -- `matrix::small_cofactor` meets its contract: the two rows that are left, written out (`det-two`).
-use mathlib.Core.Path.{refl, sym, ap, ap₂, ◌∙◌}
+use Rattle.std.proofs.Common.{refl, sym, ap, ap₂, ◌∙◌}
 use Rattle.field.specs.Field.{add, mul}
 use Rattle.matrix.specs.Block.{view}
 use Rattle.matrix.specs.Determinant.{minor, skip-lt}

@@ -1,5 +1,5 @@
 -- `matrix::small_determinant` meets its contract: sizes 0, 1 and 2 written out (`det-none`, `det-one`, `det-two`).
-use mathlib.Core.Path.{sym, ap, ap₂, ◌∙◌}
+use Rattle.std.proofs.Common.{sym, ap, ap₂, ◌∙◌}
 use Rattle.field.specs.Field.{add, mul}
 use Rattle.matrix.specs.Steps.{det-none, det-one, det-two}
 use native.Mathlib.Omega.{arith}

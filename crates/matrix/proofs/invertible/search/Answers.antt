@@ -1,5 +1,5 @@
 -- `matrix::search` meets its contract. The invariant: the original is m still, what is tried is m + a·S, and no earlier shift served (`Searching`).
-use mathlib.Core.Path.{refl, sym, ◌∙◌}
+use Rattle.std.proofs.Common.{refl, sym, ◌∙◌}
 use Rattle.matrix.specs.Searching.{searching-stays, searching-start, next-searching, searching-found, searching-none}
 use Rattle.ground.specs.AnswerLaws.{gives-value, gives-refusal}
 use native.Mathlib.Omega.{arith}

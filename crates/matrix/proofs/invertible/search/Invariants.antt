@@ -1,6 +1,5 @@
 -- `matrix::search` meets its contract. The invariant: the original is m still, what is tried is m + a·S, and no earlier shift served (`Searching`).
-use mathlib.Core.Path.{◌≡◌}
-use Prim.Native.Nat.{◌-◌}
+use Rattle.std.proofs.Common.{◌≡◌, ◌-◌}
 use Rattle.matrix.specs.Block.{view}
 use Rattle.matrix.specs.Searching.{Searching}
 use Rattle.matrix.proofs.invertible.search.Given as goal

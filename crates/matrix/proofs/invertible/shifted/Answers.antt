@@ -1,5 +1,5 @@
 -- `matrix::shifted` meets its contract: blocks that hold the same entries inside l are equal.
-use mathlib.Core.Path.{◌∙◌}
+use Rattle.std.proofs.Common.{◌∙◌}
 use Rattle.matrix.specs.Same.{same_refl, same-trans, same_add, same_scale}
 use Rattle.matrix.specs.Block.{holds, block_same}
 use Rattle.matrix.specs.Invertible.{shift}

@@ -1,5 +1,5 @@
 -- `matrix::coefficient` meets its contract: the last coefficient goes by its rule, any other stays.
-use mathlib.Core.Path.{◌∙◌}
+use Rattle.std.proofs.Common.{◌∙◌}
 use Rattle.matrix.specs.RingElements.{coefficient-last, coefficient-other}
 use Rattle.matrix.specs.Promises.{coefficients}
 use Rattle.matrix.proofs.ring.coefficient.Goals as goal

@@ -1,8 +1,7 @@
 -- `matrix::combination` meets its contract. The invariant: the block of S to the k, and the block of the first k terms of Algorithm 1's sum.
 -- A callee with no `requires` asks nothing: `(λ _ _. tt)`.
-use mathlib.Core.Path.{◌≡◌, sym, ap, ◌∙◌}
+use Rattle.std.proofs.Common.{◌≡◌, sym, ap, ◌∙◌, get_or}
 use native.Mathlib.Omega.{arith}
-use lib.ListN.{get_or}
 use Rattle.matrix.specs.RingElements.{coefficient}
 use Rattle.matrix.specs.Block.{block}
 use Rattle.matrix.specs.Steps.{power_s-none, terms}

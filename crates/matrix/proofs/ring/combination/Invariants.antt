@@ -1,8 +1,6 @@
 -- `matrix::combination` meets its contract. The invariant: the block of S to the k, and the block of the first k terms of Algorithm 1's sum.
 -- A callee with no `requires` asks nothing: `(λ _ _. tt)`.
-use mathlib.Core.Path.{◌≡◌}
-use Prim.Native.Nat.{◌≤◌}
-use lib.ListN.{get_or}
+use Rattle.std.proofs.Common.{◌≡◌, ◌≤◌, get_or}
 use Rattle.matrix.specs.RingElements.{power_s, coefficient}
 use Rattle.matrix.specs.Block.{block}
 use Rattle.matrix.specs.Steps.{terms}

@@ -1,6 +1,6 @@
 -- `matrix::last_coefficient` meets its contract: each branch is one case of the picks.
 use native.Mathlib.Omega.{arith}
-use borrow.Author.Tests.{eq-eqb, ne_eqb}
+use Rattle.std.proofs.Common.{eq-eqb, ne_eqb}
 use Rattle.matrix.proofs.ring.last_coefficient.Goals as goal
 
 pub returns-then-own-ne0 : goal.returns-then-own-ne0

@@ -1,6 +1,6 @@
 -- `matrix::s_power` meets its contract. The invariant: after i products the block is that of S to the i.
 -- A callee with no `requires` asks nothing: `(λ _ _. tt)`.
-use mathlib.Core.Path.{sym, ap, ◌∙◌}
+use Rattle.std.proofs.Common.{sym, ap, ◌∙◌}
 use native.Mathlib.Omega.{arith}
 use Rattle.matrix.specs.Block.{block}
 use Rattle.matrix.specs.Steps.{power_s-none}

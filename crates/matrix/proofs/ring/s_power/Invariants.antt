@@ -1,7 +1,6 @@
 -- `matrix::s_power` meets its contract. The invariant: after i products the block is that of S to the i.
 -- A callee with no `requires` asks nothing: `(λ _ _. tt)`.
-use mathlib.Core.Path.{◌≡◌}
-use Prim.Native.Nat.{◌≤◌}
+use Rattle.std.proofs.Common.{◌≡◌, ◌≤◌}
 use Rattle.matrix.specs.RingElements.{power_s}
 use Rattle.matrix.specs.Block.{block}
 use Rattle.matrix.proofs.ring.s_power.Given as goal

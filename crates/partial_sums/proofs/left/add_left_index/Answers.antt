@@ -1,6 +1,5 @@
 -- `partial_sums::left::add_left_index` meets its contract: the sums with P12 are added, then those with P11 times T12. Rests on tables' Sums and Places.
-use Prim.Native.Nat.{◌*◌}
-use lib.ListN.{length}
+use Rattle.std.proofs.Common.{◌*◌, length}
 use Rattle.sets.specs.Rooms.{vinegar_powers_room}
 use Rattle.rows.specs.Zero.{length-zeros, zero-at}
 use Rattle.rows.specs.PlusRows.{rows_then}

@@ -1,6 +1,5 @@
 -- `partial_sums::left::fill_left` meets its contract. The invariant: the rows of the first i matrix indices are there, and those of the next have their place. Rests on Filled.
-use mathlib.Core.Path.{refl}
-use Prim.Native.Nat.{◌*◌}
+use Rattle.std.proofs.Common.{refl, ◌*◌}
 use Rattle.partial_sums.specs.Products.{stacking-none, stacking-next, stacking-end}
 use Rattle.partial_sums.specs.Filled.{left-filled}
 use Rattle.partial_sums.specs.SumPlaces.{table-sizes, stack-fits}

@@ -1,5 +1,5 @@
 -- `partial_sums::left::fill_left` meets its contract. The invariant: the rows of the first i matrix indices are there, and those of the next have their place. Rests on Filled.
-use Prim.Native.Nat.{◌+◌, ◌*◌, ◌<◌, ◌≤◌}
+use Rattle.std.proofs.Common.{◌+◌, ◌*◌, ◌<◌, ◌≤◌}
 use Rattle.partial_sums.specs.Products.{Stacking}
 use Rattle.partial_sums.specs.LeftRight.{left_row}
 use Rattle.partial_sums.specs.SumPlaces.{TableSizes}

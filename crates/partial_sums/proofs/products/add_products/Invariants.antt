@@ -1,6 +1,6 @@
 -- `partial_sums::products::add_products` meets its contract. The invariant: y block rows are added, for every table whose multiples these are, and the next one has its place.
 -- Rests on Products.
-use Prim.Native.Nat.{◌<◌}
+use Rattle.std.proofs.Common.{◌<◌}
 use Rattle.partial_sums.specs.Products.{Multiplying, ProductTurn}
 use Rattle.partial_sums.proofs.products.add_products.Given as goal
 

@@ -1,6 +1,5 @@
 -- `partial_sums::right::add_right_index` meets its contract: the sums with P21 are added, then T12 transposed times those with P11. Rests on Products and Places.
-use Prim.Native.Nat.{◌*◌}
-use lib.ListN.{length}
+use Rattle.std.proofs.Common.{◌*◌, length}
 use Rattle.rows.specs.PlusRows.{rows_then}
 use Rattle.sets.specs.Rooms.{kept-room}
 use Rattle.tables.specs.Sums.{transposed-loaded}

@@ -1,7 +1,6 @@
 -- `partial_sums::right::fill_by_multiples` meets its contract. The invariant: the rows of the first i matrix indices are there, in both tables, and those of the next have their places.
 -- Rests on Filled.
-use mathlib.Core.Path.{refl}
-use Prim.Native.Nat.{◌*◌}
+use Rattle.std.proofs.Common.{refl, ◌*◌}
 use Rattle.sets.specs.Rooms.{vinegar_powers_room}
 use Rattle.rows.specs.Zero.{length-zeros}
 use Rattle.tables.specs.Sums.{transposed-loaded}

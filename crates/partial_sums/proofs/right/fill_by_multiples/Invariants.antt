@@ -1,8 +1,6 @@
 -- `partial_sums::right::fill_by_multiples` meets its contract. The invariant: the rows of the first i matrix indices are there, in both tables, and those of the next have their places.
 -- Rests on Filled.
-use mathlib.Core.Path.{◌≡◌}
-use Prim.Native.Nat.{◌+◌, ◌*◌, ◌<◌, ◌≤◌}
-use lib.ListN.{length}
+use Rattle.std.proofs.Common.{◌≡◌, ◌+◌, ◌*◌, ◌<◌, ◌≤◌, length}
 use Rattle.sets.specs.Rooms.{vinegar_powers_room}
 use Rattle.partial_sums.specs.Products.{Stacking}
 use Rattle.partial_sums.specs.LeftRight.{right_row, sums_row}

@@ -1,5 +1,5 @@
 -- `partial_sums::right::fill_right` meets its contract: the multiples of the rows of x are made first. Rests on words' Multiples.
-use Prim.Native.Nat.{◌*◌}
+use Rattle.std.proofs.Common.{◌*◌}
 use Rattle.sets.specs.Rooms.{vinegar_rows}
 use Rattle.rows.specs.Zero.{length-zeros}
 use Rattle.partial_sums.specs.SumPlaces.{table-sizes}

@@ -1,6 +1,5 @@
 -- `partial_sums::right::load_products` meets its contract: zeros that gain the sums with P11. Rests on Products and Places.
-use Prim.Native.Nat.{◌*◌}
-use lib.ListN.{length}
+use Rattle.std.proofs.Common.{◌*◌, length}
 use Rattle.tables.specs.Sums.{zero-rows-from}
 use Rattle.partial_sums.specs.Products.{products_at}
 use Rattle.streams.specs.Numbers.{PublicPlaces, public-places, number-within}

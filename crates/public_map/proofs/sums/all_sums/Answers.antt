@@ -1,6 +1,5 @@
 -- `public_map::sums::all_sums` meets its contract. The invariant: the first i matrix indices are done. Rests on MapSums.
-use mathlib.Core.Path.{refl, ◌∙◌}
-use Prim.Native.Nat.{◌*◌}
+use Rattle.std.proofs.Common.{refl, ◌∙◌, ◌*◌}
 use Rattle.sets.specs.Rooms.{list_rows, list-rows}
 use Rattle.rows.specs.Zero.{length-zeros}
 use Rattle.tables.specs.Table.{cleared}

@@ -1,6 +1,5 @@
 -- `public_map::sums::all_sums` meets its contract. The invariant: the first i matrix indices are done. Rests on MapSums.
-use mathlib.Core.Path.{◌≡◌}
-use lib.ListN.{length}
+use Rattle.std.proofs.Common.{◌≡◌, length}
 use Rattle.public_map.specs.MapSums.{Summing}
 use Rattle.sets.specs.Numbers.{numbers}
 use Rattle.public_map.proofs.sums.all_sums.Given as goal

@@ -1,7 +1,5 @@
 -- `public_map::sums::index_sums` meets its contract. The invariant: the rows have gained the terms of the first j. Rests on MapSums and MapPlaces.
-use mathlib.Core.Path.{◌≡◌}
-use Prim.Native.Nat.{◌≤◌}
-use lib.ListN.{length}
+use Rattle.std.proofs.Common.{◌≡◌, ◌≤◌, length}
 use Rattle.sets.specs.Rooms.{powers_room}
 use Rattle.public_map.specs.MapSums.{IndexSums}
 use Rattle.sets.specs.Numbers.{numbers}

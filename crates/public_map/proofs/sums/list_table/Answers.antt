@@ -1,5 +1,5 @@
 -- `public_map::sums::list_table` meets its contract: the powers of S, and their products with the list's matrices. Rests on MapPlaces.
-use mathlib.Core.Path.{◌∙◌}
+use Rattle.std.proofs.Common.{◌∙◌}
 use Rattle.sets.specs.Rooms.{powers_room, powers-room}
 use Rattle.rows.specs.Zero.{length-zeros}
 use Rattle.public_map.specs.MapPlaces.{few-variables}

@@ -1,6 +1,5 @@
 -- `public_map::values::put_values` meets its contract. The invariant: the first i equations are there. Rests on Values.
-use mathlib.Core.Path.{◌≡◌, subst}
-use Prim.Native.Nat.{◌+◌, ◌*◌, ◌≤◌}
+use Rattle.std.proofs.Common.{◌≡◌, subst, ◌+◌, ◌*◌, ◌≤◌}
 use Rattle.ground.specs.Place.{row_fits}
 use Rattle.matrix.specs.Block.{stride}
 use Rattle.terms.specs.Terms.{equation_from}

@@ -1,5 +1,5 @@
 -- `public_map::values::put_values` meets its contract. The invariant: the first i equations are there. Rests on Values.
-use Prim.Native.Nat.{◌≤◌}
+use Rattle.std.proofs.Common.{◌≤◌}
 use Rattle.terms.specs.Terms.{equation_from}
 use Rattle.public_map.specs.Values.{Puts}
 use Rattle.sets.specs.Numbers.{numbers}

@@ -1,6 +1,5 @@
 -- Invariant: the first k bytes are written by the rule pair_at, the others are as they were. Rests on Segment.
-use lib.ListN.{length-set}
-use mathlib.Core.Path.{refl}
+use Rattle.std.proofs.Common.{length-set, refl}
 use Rattle.ground.specs.Segment.{segment-none, fill-next, fill_end}
 use native.Mathlib.Omega.{arith}
 use Rattle.response_lines.proofs.digits.decode_all.Goals as goal

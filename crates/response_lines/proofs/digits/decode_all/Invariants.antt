@@ -1,7 +1,5 @@
 -- Invariant: the first k bytes are written by the rule pair_at, the others are as they were. Rests on Segment.
-use mathlib.Core.Path.{◌≡◌}
-use Prim.Native.Nat.{◌≤◌}
-use lib.ListN.{length}
+use Rattle.std.proofs.Common.{◌≡◌, ◌≤◌, length}
 use Rattle.ground.specs.Segment.{Segment}
 use Rattle.response_format.specs.Decode.{pair_at}
 use Rattle.response_lines.proofs.digits.decode_all.Given as goal

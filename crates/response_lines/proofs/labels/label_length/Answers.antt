@@ -1,7 +1,6 @@
 -- The table of lengths is that of the labels: label-length.
 use Rattle.response_format.proofs.Labels.{label-length, label-past}
-use lib.ListN.{length}
-use mathlib.Core.Path.{sym, ap}
+use Rattle.std.proofs.Common.{length, sym, ap}
 use Rattle.response_lines.proofs.labels.label_length.Goals as goal
 
 pub returns-then-field-lt8 : goal.returns-then-field-lt8

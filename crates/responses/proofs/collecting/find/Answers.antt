@@ -1,8 +1,5 @@
 -- Invariant: the search from here on finds what the whole search finds. Rests on seeks-stop, seeks-goes and seeks-over.
-use Rattle.std.proofs.Common.{rules, Err, eqb, get_or, eq-eqb, ne_eqb}
-use mathlib.Core.Path.{◌≡◌, refl, sym, ap, ap₂, ◌∙◌}
-use Prim.Native.Nat.{◌+◌}
-use lib.ListN.{drop}
+use Rattle.std.proofs.Common.{rules, Err, eqb, get_or, eq-eqb, ne_eqb, ◌≡◌, refl, sym, ap, ap₂, ◌∙◌, ◌+◌, drop}
 use Rattle.response_machine.specs.Machine.{nowhere, seeks}
 use Rattle.response_machine.proofs.Seeks.{seeks-stop, seeks-goes, seeks-over}
 use Rattle.ground.specs.Pick.{pick}

@@ -1,6 +1,5 @@
 -- Invariant: the search from here on finds what the whole search finds. Rests on seeks-stop, seeks-goes and seeks-over.
-use mathlib.Core.Path.{◌≡◌}
-use lib.ListN.{drop}
+use Rattle.std.proofs.Common.{◌≡◌, drop}
 use Rattle.response_machine.specs.Machine.{seeks}
 use Rattle.responses.proofs.collecting.find.Given as goal
 

@@ -1,7 +1,5 @@
 -- Invariant: the reader here, fed the rest, is the reader fed all. Rests on fed-next and fed-all.
-use mathlib.Core.Path.{sym, ap, ◌∙◌}
-use Prim.Native.Nat.{◌+◌}
-use lib.ListN.{drop}
+use Rattle.std.proofs.Common.{sym, ap, ◌∙◌, ◌+◌, drop}
 use Rattle.response_machine.specs.Reads.{fed}
 use Rattle.response_machine.proofs.Reading.{fed-next, fed-all}
 use Rattle.responses.proofs.reading.absorb.Goals as goal

@@ -1,6 +1,5 @@
 -- Invariant: the reader here, fed the rest, is the reader fed all. Rests on fed-next and fed-all.
-use mathlib.Core.Path.{◌≡◌}
-use lib.ListN.{drop}
+use Rattle.std.proofs.Common.{◌≡◌, drop}
 use Rattle.response_machine.specs.Reads.{fed}
 use Rattle.responses.proofs.reading.absorb.Given as goal
 

@@ -1,5 +1,5 @@
 -- Invariant: what the rest of the piece gives is what the whole part gives. Rests on feeds-tells, feeds-goes and feeds-end.
-use mathlib.Core.Path.{◌≡◌, sym, ◌∙◌}
+use Rattle.std.proofs.Common.{◌≡◌, sym, ◌∙◌}
 use Rattle.response_machine.specs.Pieces.{feeds-tells, feeds-goes, feeds-end}
 use native.Mathlib.Omega.{arith}
 use Rattle.responses.proofs.reading.feed.Goals as goal

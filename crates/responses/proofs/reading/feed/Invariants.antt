@@ -1,7 +1,5 @@
 -- Invariant: what the rest of the piece gives is what the whole part gives. Rests on feeds-tells, feeds-goes and feeds-end.
-use mathlib.Core.Path.{◌≡◌}
-use Prim.Native.Nat.{◌≤◌, max}
-use lib.ListN.{length, drop}
+use Rattle.std.proofs.Common.{◌≡◌, ◌≤◌, max, length, drop}
 use Rattle.response_machine.specs.Machine.{feeds}
 use Rattle.responses.proofs.reading.feed.Given as goal
 

@@ -1,5 +1,5 @@
 -- The reader fed the whole file ends with the file's refusal: `reads`.
-use mathlib.Core.Path.{ap, ◌∙◌}
+use Rattle.std.proofs.Common.{ap, ◌∙◌}
 use Rattle.ground.specs.Answers.{number_of}
 use Rattle.response_machine.specs.Reads.{fed, end_of}
 use Rattle.response_machine.proofs.Reading.{reads}

@@ -1,7 +1,5 @@
 -- Each call puts its part before the text so far: after-put and after-decimal, from the line feed to the count.
-use mathlib.Core.List.{[], ◌∷◌}
-use Prim.Native.Nat.{suc, ◌+◌, ◌≤◌}
-use lib.ListN.{length}
+use Rattle.std.proofs.Common.{[], ◌∷◌, suc, ◌+◌, ◌≤◌, length}
 use Rattle.response_format.specs.Text.{decimal, entry_text}
 use Rattle.response_format.specs.Decimal.{digits-length}
 use Rattle.responses.specs.Placed.{after-put, after-decimal}

@@ -1,5 +1,5 @@
 -- Eighty zeros are the text of no bytes.
-use mathlib.Core.Path.{refl}
+use Rattle.std.proofs.Common.{refl}
 use Rattle.responses.specs.Placed.{placed}
 use Rattle.responses.proofs.telling.no_text.Goals as goal
 

@@ -1,7 +1,5 @@
 -- Each call puts its part before the text so far: after-put, after-decimal and after-word, from the line feed to the word.
-use mathlib.Core.List.{[], ◌∷◌}
-use Prim.Native.Nat.{◌+◌, ◌≤◌}
-use lib.ListN.{length}
+use Rattle.std.proofs.Common.{[], ◌∷◌, ◌+◌, ◌≤◌, length}
 use Rattle.ground.specs.Answers.{code}
 use Rattle.response_format.specs.Text.{decimal, refused_text}
 use Rattle.response_format.specs.Decimal.{digits-length}

@@ -1,9 +1,8 @@
 -- `salvage::judge` meets its contract: the first b blocks are judged, and `before` is the nearest good block before block b. Rests on Judging.
-use Prim.Native.Nat.{◌+◌}
 use Rattle.books.specs.Book.{whole_says}
 use Rattle.salvage.specs.Judging.{fault-lt, next-good, next-bad, judges-next, judges-end}
 use native.Mathlib.Omega.{arith}
-use Rattle.std.proofs.Common.{refl, sym, ◌∙◌}
+use Rattle.std.proofs.Common.{refl, sym, ◌∙◌, ◌+◌}
 use Rattle.ground.specs.AnswerLaws.{ok-number, err-number}
 use Rattle.salvage.proofs.judging.judge.Goals as goal
 use Rattle.salvage.proofs.judging.judge.Goals.{then-is_ok, else-is_ok}

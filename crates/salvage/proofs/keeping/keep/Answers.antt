@@ -1,6 +1,5 @@
 -- `salvage::keep` meets its contract: k of the first b blocks are kept, and what is kept of the others is still to come. Rests on Keeping.
-use mathlib.Core.Path.{refl, ap}
-use lib.ListN.{length}
+use Rattle.std.proofs.Common.{refl, ap, length}
 use Rattle.books.specs.Kept.{length-numbers}
 use Rattle.salvage.specs.Keeping.{keeping_none, keep-asks, keeping-next, keeping-end}
 use native.Mathlib.Omega.{arith}

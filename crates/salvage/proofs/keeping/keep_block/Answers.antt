@@ -1,6 +1,5 @@
 -- `salvage::keep_block` meets its contract: a block made anew from what the old one holds, or none. Rests on Keeping.
-use mathlib.Core.Path.{ap, ◌∙◌}
-use lib.ListN.{length}
+use Rattle.std.proofs.Common.{ap, ◌∙◌, length}
 use Rattle.book_reader.specs.Parts.{part-there}
 use Rattle.salvage.specs.Keeping.{keeps-not, keeps-one}
 use native.Mathlib.Omega.{arith}

@@ -1,6 +1,5 @@
 -- `salvage::list_spoiled` meets its contract: the first b places hold what they are to. Rests on Listing.
-use mathlib.Core.Path.{refl, ap}
-use lib.ListN.{length}
+use Rattle.std.proofs.Common.{refl, ap, length}
 use Rattle.salvage.specs.Judging.{length-faults-of}
 use Rattle.salvage.specs.Listing.{listing-spoilt, listing-stays, listing-end}
 use native.Mathlib.Omega.{arith}

@@ -1,6 +1,6 @@
 -- `salvage::settle` meets its contract: marks, then the list. Rests on Marking.
 use Rattle.salvage.specs.Marking.{no-marks}
-use borrow.Author.Rules.{rules}
+use Rattle.std.proofs.Common.{rules}
 use Rattle.salvage.proofs.listing.settle.Goals as goal
 
 pub mark_all-requires : goal.mark_all-requires

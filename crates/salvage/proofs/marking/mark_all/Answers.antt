@@ -1,5 +1,5 @@
 -- `salvage::mark_all` meets its contract: what is marked so far, and what the blocks from b on spoil, is all that is spoiled. Rests on Marking.
-use mathlib.Core.Path.{◌≡◌, refl, ap}
+use Rattle.std.proofs.Common.{◌≡◌, refl, ap}
 use Rattle.std.proofs.Common.{length, get_or, eqb}
 use Rattle.salvage.specs.Judging.{length-faults-of, next-good, next-bad}
 use Rattle.salvage.specs.Marking.{marking-none, marking-next, marking-end}

@@ -1,7 +1,6 @@
 -- `seeds::expansion::block` meets its contract: a sponge that took the seed and then the number's bytes gives the block.
 -- Rests on shake's laws of a message in pieces and on its LaneBytes.
-use mathlib.Core.Path.{ap, ◌∙◌}
-use mathlib.Core.List.{◌++◌}
+use Rattle.std.proofs.Common.{ap, ◌∙◌, ◌++◌}
 use lib.Dec.{lit<}
 use Rattle.shake.specs.Sponge.{shake128}
 use Rattle.shake.specs.FeedLaws.{holds-first, holds_more}

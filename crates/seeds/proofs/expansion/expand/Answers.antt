@@ -1,12 +1,7 @@
 -- `seeds::expansion::expand` meets its contract. Invariant `Run`: `at` bytes of the run are written, and the next is byte `skip` of block `number`.
 -- Rests on the laws of Expansion.
-use mathlib.Core.Path.{◌≡◌, ap, ◌∙◌}
-use mathlib.Core.List.{List}
-use Prim.Native.Nat.{ℕ, ◌+◌, ◌-◌, ◌≤◌}
-use lib.ListN.{length, get_or, take, drop}
 use borrow.Rule.Slice.PartMut.{put_mid}
-use borrow.Author.Rules.{rules}
-use Rattle.std.proofs.Common.{get_or-take, get_or-drop}
+use Rattle.std.proofs.Common.{get_or-take, get_or-drop, ◌≡◌, ap, ◌∙◌, List, ℕ, ◌+◌, ◌-◌, ◌≤◌, length, get_or, take, drop, rules}
 use Rattle.ground.specs.Segment.{Segment}
 use Rattle.ground.specs.Pieces.{segment-put}
 use Rattle.seeds.specs.Expansion.{run_none, run-next, run-number, run_end}

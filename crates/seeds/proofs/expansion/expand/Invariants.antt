@@ -1,7 +1,6 @@
 -- `seeds::expansion::expand` meets its contract. Invariant `Run`: `at` bytes of the run are written, and the next is byte `skip` of block `number`.
 -- Rests on the laws of Expansion.
-use Prim.Native.Nat.{◌-◌}
-use lib.ListN.{length}
+use Rattle.std.proofs.Common.{◌-◌, length}
 use Rattle.seeds.specs.Expansion.{Run}
 use Rattle.seeds.proofs.expansion.expand.Given as goal
 

@@ -1,6 +1,5 @@
 -- `sets::count::abq_count` meets its contract: what `all_terms` answers is put into the product, and the bounds do the rest.
-use mathlib.Core.Path.{sym, ◌∙◌, ap}
-use Prim.Native.Nat.{◌+◌, ◌*◌}
+use Rattle.std.proofs.Common.{sym, ◌∙◌, ap, ◌+◌, ◌*◌}
 use native.Mathlib.Omega.{arith}
 use Rattle.sets.proofs.Bounds.{bounds_of}
 use Rattle.sets.proofs.count.abq_count.Goals as goal

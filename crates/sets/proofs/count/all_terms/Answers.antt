@@ -1,6 +1,5 @@
 -- `sets::count::all_terms` meets its contract: o times what `terms` answers.
-use mathlib.Core.Path.{ap}
-use Prim.Native.Nat.{◌*◌}
+use Rattle.std.proofs.Common.{ap, ◌*◌}
 use Rattle.sets.specs.Sets.{all_terms}
 use native.Mathlib.Omega.{arith}
 use Rattle.sets.proofs.Bounds.{bounds_of}

@@ -1,6 +1,5 @@
 -- `sets::count::public_count` meets its contract: the bounds have every product, so nothing wraps, and the definition written out.
-use mathlib.Core.Path.{sym}
-use Prim.Native.Nat.{◌+◌, ◌*◌, ◌≤◌}
+use Rattle.std.proofs.Common.{sym, ◌+◌, ◌*◌, ◌≤◌}
 use native.Mathlib.Omega.{arith}
 use native.Mathlib.Nat.{mul-le-mul, mul-le-mul_left}
 use Rattle.sets.specs.declared.Set.{Set}

@@ -1,5 +1,5 @@
 -- `sets::length::work_area` meets its contract: N and each product are small, so nothing wraps.
-use Prim.Native.Nat.{ℕ, ◌+◌, ◌*◌, ◌≤◌}
+use Rattle.std.proofs.Common.{ℕ, ◌+◌, ◌*◌, ◌≤◌}
 use native.Mathlib.Omega.{arith}
 use native.Mathlib.Nat.{mul-le-mul}
 use Rattle.sets.specs.Sets.{most_row}

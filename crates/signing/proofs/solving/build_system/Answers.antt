@@ -1,6 +1,6 @@
 -- `signing::build_system` meets its contract: each table is filled from the one before, and the built rows are page 01's system (`system-holds`). Rests on Building.
 -- A table that is lent again is as long as it was made: each call keeps its length (`kept`).
-use mathlib.Core.Path.{refl, sym}
+use Rattle.std.proofs.Common.{refl, sym}
 use Rattle.scheme.specs.Streams.{vinegar_of}
 use Rattle.system.specs.System.{system-holds}
 use Rattle.sets.specs.Rooms.{kept-room, powers-room, private-room, vinegar-powers-room, left-room, right-room, sums-room}

@@ -1,6 +1,6 @@
 -- `signing::load_vinegar` meets its contract: the vinegar unpacked, then times each power of S (`vinegar-powers`). Rests on Building.
 -- A table that is lent again is as long as it was made: each call keeps its length (`kept`).
-use mathlib.Core.Path.{refl, sym, ◌∙◌}
+use Rattle.std.proofs.Common.{refl, sym, ◌∙◌}
 use Rattle.signing.specs.Emitting.{some-l, vinegar-within}
 use Rattle.signing.specs.Building.{vinegar-powers}
 use native.Mathlib.Omega.{arith}

@@ -1,5 +1,5 @@
 -- `signing::add_oil` meets its contract. The invariant: the first y rows have gained T12 times the oil, and the next has its place.
-use mathlib.Core.Path.{refl}
+use Rattle.std.proofs.Common.{refl}
 use Rattle.tables.specs.Table.{filling-none, filling-next, filling-end}
 use Rattle.signing.specs.Emitting.{oil-turn}
 use native.Mathlib.Omega.{arith}

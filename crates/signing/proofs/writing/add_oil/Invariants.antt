@@ -1,5 +1,5 @@
 -- `signing::add_oil` meets its contract. The invariant: the first y rows have gained T12 times the oil, and the next has its place.
-use Prim.Native.Nat.{◌<◌}
+use Rattle.std.proofs.Common.{◌<◌}
 use Rattle.tables.specs.Table.{Filling}
 use Rattle.signing.specs.Writing.{oil_row}
 use Rattle.signing.specs.Emitting.{OilTurn}

@@ -1,8 +1,6 @@
 -- `signing::emit` meets its contract. The oil is the solution that was read, U its list, and the output its packed bytes (`signature-from`).
 -- A table that is lent again is as long as it was made: each call keeps its length (`kept`).
-use mathlib.Core.Path.{refl, sym, subst}
-use Prim.Native.Nat.{ℕ, ◌+◌, ◌*◌, ◌≤◌}
-use lib.ListN.{length}
+use Rattle.std.proofs.Common.{refl, sym, subst, ℕ, ◌+◌, ◌*◌, ◌≤◌, length}
 use Rattle.signing.specs.Emitting.{some-l, list-lt, solution-read, oil-read, signature-from}
 use native.Mathlib.Omega.{arith}
 use Rattle.sets.proofs.Bounds.{bounds_of}

@@ -1,6 +1,5 @@
 -- `signing::read_solution` meets its contract. The invariant: the first e bytes are read (`fill-next`), and the next stands within the area.
-use Prim.Native.Nat.{◌+◌, ◌<◌}
-use mathlib.Core.Path.{refl}
+use Rattle.std.proofs.Common.{◌+◌, ◌<◌, refl}
 use lib.Arith.{digits_lt}
 use Rattle.ground.specs.Segment.{segment-none, fill-next, segment-end}
 use Rattle.linear.specs.System.{at}

@@ -1,5 +1,5 @@
 -- `signing::read_solution` meets its contract. The invariant: the first e bytes are read (`fill-next`), and the next stands within the area.
-use Prim.Native.Nat.{◌+◌, ◌*◌, ◌<◌, ◌≤◌}
+use Rattle.std.proofs.Common.{◌+◌, ◌*◌, ◌<◌, ◌≤◌}
 use Rattle.ground.specs.Segment.{Segment}
 use Rattle.linear.specs.System.{at}
 use Rattle.signing.proofs.writing.read_solution.Given as goal

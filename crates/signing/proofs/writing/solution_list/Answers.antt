@@ -1,6 +1,6 @@
 -- `signing::solution_list` meets its contract. T12 as a table, the vinegar unpacked, plus T12 times the oil, then the oil (`solution-from`).
 -- A table that is lent again is as long as it was made: each call keeps its length (`kept`).
-use mathlib.Core.Path.{refl, sym}
+use Rattle.std.proofs.Common.{refl, sym}
 use Rattle.sets.specs.Rooms.{kept-room, powers-room, private-room}
 use Rattle.signing.specs.Emitting.{vinegar-within, counted, counted-from-start, vinegar-first, vinegar-rows, oil-rows, oil-last, solution-from}
 use native.Mathlib.Omega.{arith}

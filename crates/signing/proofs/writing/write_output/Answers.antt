@@ -1,8 +1,5 @@
 -- `signing::write_output` meets its contract. The elements and a zero in the spare half, then the salt (`output-from`).
-use mathlib.Core.Path.{◌≡◌, ap}
-use Prim.Native.Nat.{◌+◌, ◌-◌}
-use lib.ListN.{length, get_or}
-use borrow.Author.Rules.{rules}
+use Rattle.std.proofs.Common.{◌≡◌, ap, ◌+◌, ◌-◌, length, get_or, rules}
 use Rattle.ground.specs.Pieces.{segment-put}
 use Rattle.packing.specs.Packing.{packed_bytes}
 use Rattle.signing.specs.Emitting.{output-from}

@@ -1,6 +1,5 @@
 -- `streams::coefficient_at` meets its contract: the last coefficient goes by Algorithm 1's rule, any other is the group's element.
-use mathlib.Core.Path.{ap₂, ◌∙◌}
-use Prim.Native.Nat.{◌*◌}
+use Rattle.std.proofs.Common.{ap₂, ◌∙◌, ◌*◌}
 use Rattle.packing.proofs.Laws.{element-lt}
 use Rattle.matrix.specs.RingElements.{last_coefficient, coefficient-last, coefficient-other}
 use Rattle.streams.specs.Coefficients.{group-element, group-first}

@@ -1,5 +1,5 @@
 -- `streams::coefficients_of` meets its contract. The invariant: the first p places hold the first p coefficients, the others 0.
-use Prim.Native.Nat.{◌≤◌}
+use Rattle.std.proofs.Common.{◌≤◌}
 use Rattle.matrix.specs.Block.{stride}
 use Rattle.ground.specs.Segment.{Segment}
 use Rattle.rows.specs.Zero.{zeros}

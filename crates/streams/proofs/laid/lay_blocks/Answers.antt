@@ -1,6 +1,5 @@
 -- `streams::lay_blocks` meets its contract: the bytes that the blocks stand in are spread, and the first block begins at an even or an odd element (`laid_from`).
-use mathlib.Core.Path.{◌≡◌, refl}
-use Prim.Native.Nat.{◌+◌, ◌-◌, ◌*◌, ◌/◌, ◌%◌}
+use Rattle.std.proofs.Common.{◌≡◌, refl, ◌+◌, ◌-◌, ◌*◌, ◌/◌, ◌%◌}
 use Rattle.packing.specs.Packing.{packed_bytes}
 use Rattle.streams.specs.Laid.{laid_from}
 use native.Mathlib.Omega.{arith}

@@ -1,6 +1,5 @@
 -- `streams::a_number` meets its contract. Rests on the bounds of an allowed set.
-use mathlib.Core.Path.{ap}
-use Prim.Native.Nat.{◌+◌, ◌*◌}
+use Rattle.std.proofs.Common.{ap, ◌+◌, ◌*◌}
 use Rattle.scheme.specs.Streams.{term_number}
 use Rattle.streams.specs.TermPlaces.{a_lt}
 use native.Mathlib.Omega.{arith}

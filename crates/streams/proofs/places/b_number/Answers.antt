@@ -1,6 +1,5 @@
 -- `streams::b_number` meets its contract. Rests on the bounds of an allowed set.
-use mathlib.Core.Path.{ap₂}
-use Prim.Native.Nat.{◌+◌}
+use Rattle.std.proofs.Common.{ap₂, ◌+◌}
 use Rattle.streams.specs.TermPlaces.{a_lt}
 use native.Mathlib.Omega.{arith}
 use Rattle.streams.proofs.places.b_number.Goals as goal

@@ -1,5 +1,5 @@
 -- `streams::matrix_index` meets its contract: it is the definition's own text.
-use mathlib.Core.Path.{refl}
+use Rattle.std.proofs.Common.{refl}
 use Rattle.scheme.specs.Maps.{matrix_index}
 use Rattle.streams.proofs.places.matrix_index.Goals as goal
 

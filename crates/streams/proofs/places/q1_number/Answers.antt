@@ -1,6 +1,5 @@
 -- `streams::q1_number` meets its contract. Rests on the bounds of an allowed set.
-use mathlib.Core.Path.{ap, ap₂}
-use Prim.Native.Nat.{◌+◌, ◌*◌}
+use Rattle.std.proofs.Common.{ap, ap₂, ◌+◌, ◌*◌}
 use Rattle.streams.specs.TermPlaces.{few-groups, q1-within}
 use native.Mathlib.Omega.{arith}
 use Rattle.streams.proofs.places.q1_number.Goals as goal

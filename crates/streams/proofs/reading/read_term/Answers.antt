@@ -1,6 +1,5 @@
 -- `streams::read_term` meets its contract: the parts stand at their numbers, and no block is refused (`a-is`, `b-is`).
-use mathlib.Core.Path.{subst}
-use Prim.Native.Nat.{◌*◌, ◌<◌}
+use Rattle.std.proofs.Common.{subst, ◌*◌, ◌<◌}
 use Rattle.ground.specs.Segment.{Segment}
 use Rattle.ground.specs.AnswerLaws.{same-value}
 use Rattle.rows.specs.Zero.{zeros}

@@ -1,6 +1,5 @@
 -- `system::blocks::add_tile` meets its contract. The invariant: the first r rows have gained, and the next has its place. Rests on BlockRows and tables' Sums.
-use Prim.Native.Nat.{◌<◌}
-use lib.ListN.{length}
+use Rattle.std.proofs.Common.{◌<◌, length}
 use Rattle.matrix.specs.Block.{stride}
 use Rattle.rows.specs.Tile.{tile}
 use Rattle.matrix.specs.Matrix.{scale_m}

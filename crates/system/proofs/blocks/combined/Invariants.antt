@@ -1,7 +1,5 @@
 -- `system::blocks::combined` meets its contract. The invariant: the rows of the block have gained the first x terms, and the next has its block. Rests on BlockRows, tables' Sums and Sides.
-use mathlib.Core.Path.{◌≡◌}
-use Prim.Native.Nat.{◌+◌, ◌*◌, ◌<◌}
-use lib.ListN.{length}
+use Rattle.std.proofs.Common.{◌≡◌, ◌+◌, ◌*◌, ◌<◌, length}
 use Rattle.matrix.specs.Block.{block_bytes, stride}
 use Rattle.rows.specs.Zero.{zeros}
 use Rattle.rows.specs.Tile.{tile}

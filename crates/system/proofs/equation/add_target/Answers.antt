@@ -1,14 +1,11 @@
 -- `system::equation::add_target` meets its contract. The invariant: the last bytes of the first e rows have gained, and the next row and element have their places. Rests on Equation.
-use mathlib.Core.Path.{◌≡◌, refl}
-use Prim.Native.Nat.{◌+◌, ◌*◌}
-use lib.ListN.{length}
+use Rattle.std.proofs.Common.{◌≡◌, refl, ◌+◌, ◌*◌, length, rules}
 use lib.Arith.{digits_lt}
 use Rattle.matrix.specs.Block.{block_bytes}
 use Rattle.tables.specs.Sums.{adding-none, adding-next, adding-end}
 use Rattle.system.specs.Sides.{row-turn}
 use Rattle.partial_sums.specs.SumPlaces.{table-sizes}
 use Rattle.system.specs.Equation.{target-step, target-within}
-use borrow.Author.Rules.{rules}
 use native.Mathlib.Omega.{arith}
 use Rattle.sets.specs.Numbers.{numbers}
 use Rattle.sets.proofs.Bounds.{bounds_of}

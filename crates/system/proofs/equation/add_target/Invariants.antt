@@ -1,5 +1,5 @@
 -- `system::equation::add_target` meets its contract. The invariant: the last bytes of the first e rows have gained, and the next row and element have their places. Rests on Equation.
-use Prim.Native.Nat.{◌+◌, ◌*◌, ◌<◌}
+use Rattle.std.proofs.Common.{◌+◌, ◌*◌, ◌<◌}
 use Rattle.tables.specs.Sums.{Adding}
 use Rattle.partial_sums.specs.SumPlaces.{TableSizes}
 use Rattle.system.specs.Sides.{RowTurn}

@@ -1,7 +1,5 @@
 -- `system::equation::add_term` meets its contract: the products made of what was read are the term's (`left-products`, `right-products`). Rests on Equation.
-use mathlib.Core.Path.{◌≡◌, ap, ◌∙◌}
-use Prim.Native.Nat.{ℕ, ◌+◌, ◌*◌, ◌<◌, ◌≤◌}
-use lib.ListN.{length}
+use Rattle.std.proofs.Common.{◌≡◌, ap, ◌∙◌, ℕ, ◌+◌, ◌*◌, ◌<◌, ◌≤◌, length}
 use Rattle.sets.specs.declared.Set.{Set}
 use Rattle.sets.specs.Bounds.{Bounds}
 use Rattle.rows.specs.Zero.{length-zeros}

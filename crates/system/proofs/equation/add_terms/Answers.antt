@@ -1,8 +1,6 @@
 -- `system::equation::add_terms` meets its contract. The invariant: the products have gained those of the first alpha terms, and the block holds the sum of their values.
 -- Rests on Equation, and on terms' sum over alpha.
-use mathlib.Core.Path.{◌≡◌, refl, ap, ◌∙◌}
-use Prim.Native.Nat.{ℕ, ◌<◌, ◌≤◌}
-use lib.ListN.{length}
+use Rattle.std.proofs.Common.{◌≡◌, refl, ap, ◌∙◌, ℕ, ◌<◌, ◌≤◌, length}
 use Rattle.sets.specs.declared.Set.{Set}
 use Rattle.sets.specs.Sets.{terms}
 use Rattle.sets.specs.Bounds.{Bounds}

@@ -1,6 +1,5 @@
 -- `system::equation::build` meets its contract. The invariant: the rows of the first i equations are there, and those of the next have their place. Rests on Equation.
-use mathlib.Core.Path.{refl}
-use Prim.Native.Nat.{◌+◌, ◌*◌}
+use Rattle.std.proofs.Common.{refl, ◌+◌, ◌*◌}
 use Rattle.partial_sums.specs.Products.{stacking-none, stacking-next, stacking-end}
 use Rattle.partial_sums.specs.SumPlaces.{table-sizes, stack-fits}
 use Rattle.system.specs.Equation.{built}

@@ -1,5 +1,5 @@
 -- `system::equation::build` meets its contract. The invariant: the rows of the first i equations are there, and those of the next have their place. Rests on Equation.
-use Prim.Native.Nat.{◌+◌, ◌*◌, ◌<◌, ◌≤◌}
+use Rattle.std.proofs.Common.{◌+◌, ◌*◌, ◌<◌, ◌≤◌}
 use Rattle.partial_sums.specs.Products.{Stacking}
 use Rattle.partial_sums.specs.SumPlaces.{TableSizes}
 use Rattle.system.specs.Equation.{system_row}

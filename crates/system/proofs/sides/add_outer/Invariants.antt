@@ -1,5 +1,5 @@
 -- `system::sides::add_outer` meets its contract. The invariant: the first z rows have gained, and the next has its place. Rests on Sides and tables' Sums.
-use Prim.Native.Nat.{◌*◌, ◌<◌}
+use Rattle.std.proofs.Common.{◌*◌, ◌<◌}
 use Rattle.matrix.specs.Block.{stride}
 use Rattle.tables.specs.Sums.{Adding}
 use Rattle.system.specs.Sides.{outer_row, OuterTurn}

@@ -1,5 +1,5 @@
 -- `system::sides::add_row` meets its contract. The invariant: the first q parts of l bytes have gained, and the next has its place. Rests on Sides and tables' Sums.
-use Prim.Native.Nat.{◌*◌, ◌<◌}
+use Rattle.std.proofs.Common.{◌*◌, ◌<◌}
 use native.Mathlib.Nat.{le-mul_of_pos_right}
 use Rattle.tables.specs.Sums.{adding-none, adding-next, adding-end}
 use Rattle.system.specs.Sides.{cell_row, cell-turn}

@@ -1,5 +1,5 @@
 -- `system::sides::add_row` meets its contract. The invariant: the first q parts of l bytes have gained, and the next has its place. Rests on Sides and tables' Sums.
-use Prim.Native.Nat.{◌*◌, ◌<◌}
+use Rattle.std.proofs.Common.{◌*◌, ◌<◌}
 use Rattle.tables.specs.Sums.{Adding}
 use Rattle.system.specs.Sides.{cell_gain, CellTurn}
 use Rattle.system.proofs.sides.add_row.Given as goal

@@ -1,5 +1,5 @@
 -- `system::sides::add_rows` meets its contract. The invariant: the first e rows have gained, and the next has its place. Rests on Sides and tables' Sums.
-use Prim.Native.Nat.{◌+◌, ◌*◌, ◌<◌}
+use Rattle.std.proofs.Common.{◌+◌, ◌*◌, ◌<◌}
 use Rattle.tables.specs.Sums.{Adding}
 use Rattle.system.specs.Sides.{row_gain, RowTurn}
 use Rattle.system.proofs.sides.add_rows.Given as goal

@@ -1,6 +1,5 @@
 -- `system::sides::fill_sides` meets its contract. The invariant: the first k blocks are there, zeros behind them, and the next has its block of the table. Rests on Sides and tables' Sums.
-use Prim.Native.Nat.{◌+◌, ◌*◌, ◌<◌}
-use lib.ListN.{length}
+use Rattle.std.proofs.Common.{◌+◌, ◌*◌, ◌<◌, length}
 use Rattle.matrix.specs.Block.{view, block_bytes}
 use Rattle.matrix.specs.Promises.{coefficients}
 use Rattle.tables.specs.Sums.{Adding}

@@ -1,5 +1,5 @@
 -- `tables::add_power` meets its contract. The invariant: the first r rows of the power are added. Rests on PowerBlocks and matrix's blocks.
-use mathlib.Core.Path.{refl}
+use Rattle.std.proofs.Common.{refl}
 use Rattle.rows.specs.PlusRows.{rows_next}
 use Rattle.tables.specs.PowerBlocks.{power-gains}
 use native.Mathlib.Omega.{arith}

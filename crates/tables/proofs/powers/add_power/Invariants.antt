@@ -1,5 +1,5 @@
 -- `tables::add_power` meets its contract. The invariant: the first r rows of the power are added. Rests on PowerBlocks and matrix's blocks.
-use Prim.Native.Nat.{◌≤◌}
+use Rattle.std.proofs.Common.{◌≤◌}
 use Rattle.matrix.specs.RingElements.{power_s}
 use Rattle.rows.specs.PlusRows.{PlusRows}
 use Rattle.tables.proofs.powers.add_power.Given as goal

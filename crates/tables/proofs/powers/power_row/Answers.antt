@@ -1,6 +1,5 @@
 -- `tables::power_row` meets its contract. The invariant: the rows for the first b powers are added, side by side. Rests on PowerRows and Turns.
-use mathlib.Core.Path.{refl}
-use Prim.Native.Nat.{◌+◌, ◌*◌, ◌<◌, ◌≤◌}
+use Rattle.std.proofs.Common.{refl, ◌+◌, ◌*◌, ◌<◌, ◌≤◌}
 use native.Mathlib.Nat.{le-mul_of_pos_right}
 use Rattle.ground.specs.Place.{row_fits}
 use Rattle.rows.specs.PlusRows.{rows_none}

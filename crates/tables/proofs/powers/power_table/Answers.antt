@@ -1,5 +1,5 @@
 -- `tables::power_table` meets its contract. The invariant: the first y rows are filled. Rests on PowerRows, Table and Turns.
-use mathlib.Core.Path.{refl}
+use Rattle.std.proofs.Common.{refl}
 use Rattle.tables.specs.Table.{filling-next, filling-end}
 use Rattle.tables.specs.PowerRows.{power-filled}
 use Rattle.tables.specs.Turns.{ListTurn, list-turn}

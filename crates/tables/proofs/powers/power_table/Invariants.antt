@@ -1,5 +1,5 @@
 -- `tables::power_table` meets its contract. The invariant: the first y rows are filled. Rests on PowerRows, Table and Turns.
-use Prim.Native.Nat.{◌/◌, ◌%◌}
+use Rattle.std.proofs.Common.{◌/◌, ◌%◌}
 use Rattle.tables.specs.Table.{Filling}
 use Rattle.tables.specs.PowerRows.{powers_row}
 use Rattle.tables.proofs.powers.power_table.Given as goal

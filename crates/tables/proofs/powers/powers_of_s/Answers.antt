@@ -1,5 +1,5 @@
 -- `tables::powers_of_s` meets its contract. The invariant: the first p powers are filled. Rests on PowerBlocks.
-use mathlib.Core.Path.{refl}
+use Rattle.std.proofs.Common.{refl}
 use Rattle.tables.specs.PowerBlocks.{stacking-next, stacking-filled}
 use Rattle.tables.proofs.powers.powers_of_s.Goals as goal
 

@@ -1,5 +1,5 @@
 -- `tables::private_part` meets its contract. The invariant: the terms of the first p powers are added. Rests on RingRows and Turns.
-use mathlib.Core.Path.{refl}
+use Rattle.std.proofs.Common.{refl}
 use Rattle.tables.specs.RingRows.{ringing-none, ringing-next, ringing-end}
 use Rattle.tables.proofs.private.private_part.Goals as goal
 

@@ -1,5 +1,5 @@
 -- `tables::private_row` meets its contract. The invariant: the rows of the first k elements are added, side by side. Rests on RingRows and Turns.
-use mathlib.Core.Path.{refl}
+use Rattle.std.proofs.Common.{refl}
 use Rattle.tables.specs.RingRows.{rings-next, rings-end}
 use Rattle.tables.proofs.private.private_row.Goals as goal
 

@@ -1,7 +1,5 @@
 -- `tables::private_table` meets its contract. The invariant: the first y rows are filled. Rests on RingRows, Table and Turns.
-use mathlib.Core.Path.{refl}
-use Prim.Native.Nat.{◌*◌, ◌≤◌}
-use lib.ListN.{length}
+use Rattle.std.proofs.Common.{refl, ◌*◌, ◌≤◌, length}
 use Rattle.tables.specs.Table.{filling-next, filling-end}
 use Rattle.tables.specs.RingRows.{private-filled}
 use Rattle.tables.specs.Turns.{PrivateTurn, private-turn, private-within}

@@ -1,5 +1,5 @@
 -- `tables::private_table` meets its contract. The invariant: the first y rows are filled. Rests on RingRows, Table and Turns.
-use Prim.Native.Nat.{◌*◌, ◌/◌, ◌%◌}
+use Rattle.std.proofs.Common.{◌*◌, ◌/◌, ◌%◌}
 use Rattle.tables.specs.Table.{Filling}
 use Rattle.tables.specs.RingRows.{rings_row}
 use Rattle.tables.proofs.private.private_table.Given as goal

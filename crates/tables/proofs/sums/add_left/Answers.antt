@@ -1,5 +1,5 @@
 -- `tables::sums::add_left` meets its contract. The invariant: the terms of the first j are added. Rests on Sums.
-use Prim.Native.Nat.{◌*◌}
+use Rattle.std.proofs.Common.{◌*◌}
 use native.Mathlib.Nat.{le-mul_of_pos_right}
 use Rattle.sets.specs.Rooms.{vinegar_room}
 use Rattle.rows.specs.Zero.{length-zeros}

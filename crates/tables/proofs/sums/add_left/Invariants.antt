@@ -1,7 +1,5 @@
 -- `tables::sums::add_left` meets its contract. The invariant: the terms of the first j are added. Rests on Sums.
-use mathlib.Core.Path.{◌≡◌}
-use Prim.Native.Nat.{◌+◌, ◌*◌}
-use lib.ListN.{length}
+use Rattle.std.proofs.Common.{◌≡◌, ◌+◌, ◌*◌, length}
 use Rattle.sets.specs.Rooms.{vinegar_room}
 use Rattle.tables.specs.Gains.{blocks_row}
 use Rattle.tables.specs.Sums.{transposed_gain, Summing}

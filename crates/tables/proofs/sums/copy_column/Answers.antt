@@ -1,7 +1,5 @@
 -- `tables::sums::copy_column` meets its contract. The invariant: the first k bytes are copied. Rests on Columns.
-use mathlib.Core.Path.{refl}
-use Prim.Native.Nat.{◌+◌, ◌*◌, ◌<◌}
-use lib.ListN.{length}
+use Rattle.std.proofs.Common.{refl, ◌+◌, ◌*◌, ◌<◌, length}
 use Rattle.tables.specs.Columns.{copying-next}
 use Rattle.tables.proofs.sums.copy_column.Goals as goal
 

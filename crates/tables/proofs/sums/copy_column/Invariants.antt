@@ -1,6 +1,5 @@
 -- `tables::sums::copy_column` meets its contract. The invariant: the first k bytes are copied. Rests on Columns.
-use Prim.Native.Nat.{◌+◌, ◌*◌}
-use lib.ListN.{get_or}
+use Rattle.std.proofs.Common.{◌+◌, ◌*◌, get_or}
 use Rattle.tables.specs.Columns.{Copying}
 use Rattle.tables.proofs.sums.copy_column.Given as goal
 

@@ -1,6 +1,5 @@
 -- `tables::sums::load_blocks` meets its contract. The invariant: the first e entries of each block are copied. Rests on Columns and Laid.
-use mathlib.Core.Path.{refl, ◌∙◌}
-use Prim.Native.Nat.{◌*◌, ◌≤◌}
+use Rattle.std.proofs.Common.{refl, ◌∙◌, ◌*◌, ◌≤◌}
 use native.Mathlib.Nat.{le-mul_of_pos_right}
 use Rattle.sets.specs.Rooms.{vinegar_room}
 use Rattle.streams.specs.Laid.{block_room}

@@ -1,6 +1,5 @@
 -- `tables::sums::load_blocks` meets its contract. The invariant: the first e entries of each block are copied. Rests on Columns and Laid.
-use mathlib.Core.Path.{◌≡◌}
-use lib.ListN.{length}
+use Rattle.std.proofs.Common.{◌≡◌, length}
 use Rattle.tables.specs.Columns.{Loading}
 use Rattle.tables.proofs.sums.load_blocks.Given as goal
 

@@ -1,6 +1,5 @@
 -- `terms::equation_block` meets its contract. The invariant: the block holds the sum of the first alpha terms.
-use mathlib.Core.Path.{◌≡◌}
-use Prim.Native.Nat.{◌≤◌}
+use Rattle.std.proofs.Common.{◌≡◌, ◌≤◌}
 use Rattle.matrix.specs.Block.{block}
 use Rattle.scheme.specs.Maps.{sum_m}
 use Rattle.terms.specs.Terms.{term_from}

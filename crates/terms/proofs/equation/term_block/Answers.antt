@@ -1,5 +1,5 @@
 -- `terms::term_block` meets its contract: the two products are the term's (`term_of`).
-use Prim.Native.Nat.{◌≤◌}
+use Rattle.std.proofs.Common.{◌≤◌}
 use Rattle.matrix.specs.Block.{stride}
 use Rattle.terms.specs.Terms.{term_with}
 use Rattle.terms.specs.Adding.{term_of}

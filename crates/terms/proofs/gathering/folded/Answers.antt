@@ -1,5 +1,5 @@
 -- `terms::folded` meets its contract. The invariant: the first r rows of the block are there, all else is 0. Rests on Gathering's Rowing.
-use mathlib.Core.Path.{refl}
+use Rattle.std.proofs.Common.{refl}
 use Rattle.rows.specs.Plus.{plus-cong}
 use Rattle.terms.specs.Gathering.{rowing-none, rowing-next, rowing-end, folded-row}
 use native.Mathlib.Omega.{arith}

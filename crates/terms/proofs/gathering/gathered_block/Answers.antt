@@ -1,15 +1,12 @@
 -- `terms::gathered_block` meets its contract: the sum over x stands in `left`, and folding it gives both sums (`gathered-is`).
-use mathlib.Core.Path.{◌≡◌, ◌∙◌}
-use Prim.Native.Nat.{◌≤◌}
+use Rattle.std.proofs.Common.{◌≡◌, ◌∙◌, ◌≤◌, length, rules}
 use native.Mathlib.Nat.{mul-le-mul}
-use lib.ListN.{length}
 use Rattle.sets.specs.Sets.{most_l}
 use Rattle.sets.specs.Rooms.{powers_room}
 use Rattle.rows.specs.Zero.{zeros, length-zeros, zero-at}
 use Rattle.matrix.specs.Block.{block_same, stride}
 use Rattle.terms.specs.SumsPlaces.{sums-start}
 use Rattle.terms.specs.Gathering.{gathered-is}
-use borrow.Author.Rules.{rules}
 use native.Mathlib.Omega.{arith}
 use Rattle.terms.proofs.gathering.gathered_block.Goals as goal
 

@@ -1,6 +1,5 @@
 -- `terms::add_power_sum` meets its contract. The invariant: the first `row` rows have gained. Rests on Gain.
-use lib.ListN.{length}
-use Prim.Native.Nat.{◌*◌}
+use Rattle.std.proofs.Common.{length, ◌*◌}
 use native.Mathlib.Nat.{le_refl}
 use Rattle.terms.specs.Gain.{square-within, start-within, gain-row-within, scalar-within, gaining-none, gaining-next, gaining-end}
 use native.Mathlib.Omega.{arith}

@@ -1,6 +1,5 @@
 -- `verdict::compare::accepts` meets its contract: the map at the unpacked signature, and the search for an entry that differs. Rests on Difference.
-use mathlib.Core.Path.{refl, ◌∙◌}
-use Prim.Native.Nat.{◌*◌, ◌≤◌}
+use Rattle.std.proofs.Common.{refl, ◌∙◌, ◌*◌, ◌≤◌}
 use Rattle.rows.specs.Zero.{length-zeros}
 use Rattle.sets.specs.Sets.{most_row, target_bytes, signature_bytes, variables}
 use Rattle.sets.proofs.Bounds.{bounds_of}
