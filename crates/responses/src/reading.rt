@@ -11,6 +11,7 @@ use response_format::{Event, Numbers};
 use response_lines::{close, handed, next, whole};
 use response_machine::{Closed, Fed, Line, Reader, Stepped};
 
+// One field more, 8 at the most. One select: no plainer.
 #[tactic(auto, unfolding(response_machine::specs::Machine::fields_after))]
 fn fields_after(fields: u8) -> u8
     ensures { result ≡ fields_after fields }
