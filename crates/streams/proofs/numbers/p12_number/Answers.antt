@@ -1,5 +1,5 @@
 -- `streams::numbers::p12_number` meets its contract: the block row lies within its stream, which has few blocks.
-use Rattle.streams.specs.Numbers.{starts, p12-fits, RowNumber, p12-row}
+use Rattle.streams.specs.Numbers.{starts, p12-fits, p12-row}
 use native.Mathlib.Omega.{arith}
 use Rattle.sets.specs.Numbers.{numbers}
 use Rattle.sets.proofs.Bounds.{bounds_of}
@@ -12,24 +12,16 @@ pub overflow_mul-result-2 : goal.overflow_mul-result-2
 overflow_mul-result-2 c = omega (arith, (bounds_of c.args.set).products.vvo)
 
 pub overflow_mul-result-3 : goal.overflow_mul-result-3
-overflow_mul-result-3 c =
-    let row : RowNumber c.args.set.v c.args.set.o c.args.i c.args.j = p12-row (bounds_of c.args.set) c.requires.0 c.requires.1 in
-    omega (arith, row.matrix)
+overflow_mul-result-3 c = omega (arith, (p12-row (bounds_of c.args.set) c.requires.0 c.requires.1).matrix)
 
 pub overflow_add-result : goal.overflow_add-result
-overflow_add-result c =
-    let row : RowNumber c.args.set.v c.args.set.o c.args.i c.args.j = p12-row (bounds_of c.args.set) c.requires.0 c.requires.1 in
-    omega (arith, row.row)
+overflow_add-result c = omega (arith, (p12-row (bounds_of c.args.set) c.requires.0 c.requires.1).row)
 
 pub overflow_mul-result-4 : goal.overflow_mul-result-4
-overflow_mul-result-4 c =
-    let row : RowNumber c.args.set.v c.args.set.o c.args.i c.args.j = p12-row (bounds_of c.args.set) c.requires.0 c.requires.1 in
-    omega (arith, row.block)
+overflow_mul-result-4 c = omega (arith, (p12-row (bounds_of c.args.set) c.requires.0 c.requires.1).block)
 
 pub overflow_add-result-2 : goal.overflow_add-result-2
-overflow_add-result-2 c =
-    let row : RowNumber c.args.set.v c.args.set.o c.args.i c.args.j = p12-row (bounds_of c.args.set) c.requires.0 c.requires.1 in
-    omega (arith, row.block, (bounds_of c.args.set).products.vvo)
+overflow_add-result-2 c = omega (arith, (p12-row (bounds_of c.args.set) c.requires.0 c.requires.1).block, (bounds_of c.args.set).products.vvo)
 
 pub returns : goal.returns
 returns c =

@@ -1,5 +1,5 @@
 -- `streams::numbers::p21_number` meets its contract: the block row lies within its stream, which has few blocks.
-use Rattle.streams.specs.Numbers.{starts, p21-fits, RowNumber, p21-row}
+use Rattle.streams.specs.Numbers.{starts, p21-fits, p21-row}
 use native.Mathlib.Omega.{arith}
 use Rattle.sets.specs.Numbers.{numbers}
 use Rattle.sets.proofs.Bounds.{bounds_of}
@@ -22,24 +22,16 @@ overflow_add-result c =
     omega (arith, (bounds_of c.args.set).products.vvo, (bounds_of c.args.set).products.voo)
 
 pub overflow_mul-result-5 : goal.overflow_mul-result-5
-overflow_mul-result-5 c =
-    let row : RowNumber c.args.set.o c.args.set.v c.args.i c.args.k = p21-row (bounds_of c.args.set) c.requires.0 c.requires.1 in
-    omega (arith, row.matrix)
+overflow_mul-result-5 c = omega (arith, (p21-row (bounds_of c.args.set) c.requires.0 c.requires.1).matrix)
 
 pub overflow_add-result-2 : goal.overflow_add-result-2
-overflow_add-result-2 c =
-    let row : RowNumber c.args.set.o c.args.set.v c.args.i c.args.k = p21-row (bounds_of c.args.set) c.requires.0 c.requires.1 in
-    omega (arith, row.row)
+overflow_add-result-2 c = omega (arith, (p21-row (bounds_of c.args.set) c.requires.0 c.requires.1).row)
 
 pub overflow_mul-result-6 : goal.overflow_mul-result-6
-overflow_mul-result-6 c =
-    let row : RowNumber c.args.set.o c.args.set.v c.args.i c.args.k = p21-row (bounds_of c.args.set) c.requires.0 c.requires.1 in
-    omega (arith, row.block)
+overflow_mul-result-6 c = omega (arith, (p21-row (bounds_of c.args.set) c.requires.0 c.requires.1).block)
 
 pub overflow_add-result-3 : goal.overflow_add-result-3
-overflow_add-result-3 c =
-    let row : RowNumber c.args.set.o c.args.set.v c.args.i c.args.k = p21-row (bounds_of c.args.set) c.requires.0 c.requires.1 in
-    omega (arith, row.block, (bounds_of c.args.set).products.vvo, (bounds_of c.args.set).products.voo)
+overflow_add-result-3 c = omega (arith, (p21-row (bounds_of c.args.set) c.requires.0 c.requires.1).block, (bounds_of c.args.set).products.vvo, (bounds_of c.args.set).products.voo)
 
 pub returns : goal.returns
 returns c =
