@@ -65,11 +65,14 @@ same-numbers : (a b : AllowedSet) → numbers a ≡ numbers b → a ≡ b
 same-numbers a b e =
     subst (λ s. (w : allowed_set s ≡ true) → a ≡ made_of s w) e (λ w. ap (made_of (numbers a)) (one-proof (numbers a) a.within w)) b.within
 
+pub unique-known-set : {set : Set} {r r' : AllowedSet} → numbers r ≡ set → numbers r' ≡ set → r ≡ r'
+unique-known-set e e' = same-numbers _ _ (e ∙ sym e')
+
 pub unique-allowed-set : (set : Set) {r r' : Result AllowedSet Refusal}
     → IfOk r (λ a. numbers a ≡ set) → IfErr r (λ e. (e ≡ SetNotAllowed) × (allowed_set set ≡ false))
     → IfOk r' (λ a. numbers a ≡ set) → IfErr r' (λ e. (e ≡ SetNotAllowed) × (allowed_set set ≡ false))
     → r ≡ r'
-unique-allowed-set set {r = Ok a} {r' = Ok b} m _ m' _ = ap Ok (same-numbers a b (m ∙ sym m'))
+unique-allowed-set set {r = Ok a} {r' = Ok b} m _ m' _ = ap Ok (unique-known-set m m')
 unique-allowed-set set {r = Ok a} {r' = Err e} m _ _ n' = absurd (true≢false (sym (rw m at a.within) ∙ n'.1))
 unique-allowed-set set {r = Err e} {r' = Ok b} _ n m' _ = absurd (true≢false (sym (rw m' at b.within) ∙ n.1))
 unique-allowed-set set {r = Err e} {r' = Err e'} _ n _ n' = ap Err (n.0 ∙ sym n'.0)

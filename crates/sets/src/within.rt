@@ -18,6 +18,7 @@ pub struct AllowedSet {
 impl AllowedSet {
     ghost use Rattle.std.specs.Prelude.{false, IfOk, IfErr};
     ghost use Rattle.ground.specs.declared.Refusal.TheVariants.{SetNotAllowed};
+    ghost use Rattle.sets.specs.Bounds.{Bounds};
     ghost use Rattle.sets.specs.Numbers.{numbers};
 
     // The set, where it is allowed; else refusal 10.
@@ -28,5 +29,29 @@ impl AllowedSet {
         ground::demand(allowed(set), Refusal::SetNotAllowed)?;
         let Set { v, o, l } = set;
         Ok(AllowedSet { v, o, l })
+    }
+
+    // A set that is known to be allowed, as one.
+    pub fn known(set: Set) -> AllowedSet
+        requires { Bounds set }
+        ensures { numbers result ≡ set }
+    {
+        AllowedSet {
+            v: set.v,
+            o: set.o,
+            l: set.l,
+        }
+    }
+
+    // The set itself, for what asks for one.
+    pub fn numbers(self) -> Set
+        ensures itself { result ≡ numbers self }
+        ensures within { Bounds result }
+    {
+        Set {
+            v: self.v,
+            o: self.o,
+            l: self.l,
+        }
     }
 }
