@@ -2,19 +2,19 @@
 ghost use Rattle.std.specs.Prelude.{◌≡◌, [], ◌∷◌, length};
 ghost use Rattle.ground.specs.Answers.{number_of, first, unless};
 ghost use Rattle.ground.specs.declared.Refusal.TheVariants.{NotInvertible};
-ghost use Rattle.sets.specs.Numbers.{numbers};
+ghost use Rattle.sets.specs.Bounds.{Bounds};
 ghost use Rattle.sets.specs.Sets.{abq_bytes};
 ghost use Rattle.scheme.specs.Maps.{all_invertible};
 
 use ground::Refusal;
-use sets::AllowedSet;
+use sets::{AllowedSet, Set};
 use streams::invertible_at;
 
-pub fn all_invertible(set: AllowedSet, abq: &[u8]) -> Result<(), Refusal>
-    requires { length abq.now ≡ abq_bytes (numbers set) }
-    ensures { number_of result ≡ first (unless NotInvertible (all_invertible (numbers set) abq.now) ∷ []) }
+pub fn all_invertible(set: Set, abq: &[u8]) -> Result<(), Refusal>
+    requires { Bounds set × (length abq.now ≡ abq_bytes set) }
+    ensures { number_of result ≡ first (unless NotInvertible (all_invertible set abq.now) ∷ []) }
 {
-    let count = 2 * sets::all_terms(set);
+    let count = 2 * sets::all_terms(AllowedSet::known(set));
     for b in 0..count {
         invertible_at(abq, set.l, b)?;
     }

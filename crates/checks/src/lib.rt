@@ -10,7 +10,7 @@ ghost use Rattle.scheme.specs.Refusals.{sign_refusals, verdict_refusals};
 
 use ground::Refusal;
 pub use invertible::all_invertible;
-use sets::{AllowedSet, Set};
+use sets::Set;
 
 // Signing's refusals: 10, 11, 12, 13, 14, 15, 17, 19, 20, 21, the first in this order.
 pub fn check_sign(
@@ -38,7 +38,6 @@ pub fn check_sign(
         work.len(),
         output.len(),
     )?;
-    let set = AllowedSet::new(set)?;
     all_invertible(set, abq)
 }
 
@@ -61,6 +60,5 @@ pub fn check_verdict(
         key.len(),
         signature.len(),
     )?;
-    let set = AllowedSet::new(set)?;
     all_invertible(set, abq)
 }

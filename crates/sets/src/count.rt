@@ -1,11 +1,12 @@
-// How many elements each stream holds. The set is allowed, so no product wraps.
+// How many elements each stream holds. The set is allowed, by its type or by what is asked of it, so no product wraps.
 // One function for each line of page 01's table: alike in form, and no plainer.
 ghost use Rattle.std.specs.Prelude.{◌≡◌};
 ghost use Rattle.sets.specs.Sets.{terms as Sets·terms, all_terms, unknowns as Sets·unknowns};
 ghost use Rattle.sets.specs.Sets.{public_count, abq_count, private_count, vinegar_count, target_count, key_count, signature_count};
+ghost use Rattle.sets.specs.Bounds.{Bounds};
 ghost use Rattle.sets.specs.Numbers.{numbers};
 
-use crate::AllowedSet;
+use crate::{AllowedSet, Set};
 
 // The terms of an equation: alpha runs below this.
 pub fn terms(s: AllowedSet) -> usize
@@ -28,20 +29,23 @@ pub fn unknowns(s: AllowedSet) -> usize
     s.o * (s.l * s.l)
 }
 
-pub fn public_count(s: AllowedSet) -> usize
-    ensures { result ≡ public_count (numbers s) }
+pub fn public_count(s: Set) -> usize
+    requires { Bounds s }
+    ensures { result ≡ public_count s }
 {
     s.o * (s.v * s.v + 2 * s.v * s.o) * (s.l * s.l)
 }
 
-pub fn abq_count(s: AllowedSet) -> usize
-    ensures { result ≡ abq_count (numbers s) }
+pub fn abq_count(s: Set) -> usize
+    requires { Bounds s }
+    ensures { result ≡ abq_count s }
 {
-    all_terms(s) * (2 * (s.l * s.l) + 2 * s.l)
+    all_terms(AllowedSet::known(s)) * (2 * (s.l * s.l) + 2 * s.l)
 }
 
-pub fn private_count(s: AllowedSet) -> usize
-    ensures { result ≡ private_count (numbers s) }
+pub fn private_count(s: Set) -> usize
+    requires { Bounds s }
+    ensures { result ≡ private_count s }
 {
     s.v * s.o * s.l
 }

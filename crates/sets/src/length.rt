@@ -16,21 +16,21 @@ use crate::{AllowedSet, SALT_BYTES, Set};
 pub fn public_bytes(s: Set) -> usize
     ensures { result ≡ pick (allowed_set s) (public_bytes s) 0 }
 {
-    AllowedSet::new(s).map_or(0, |s| public_count(s).div_ceil(2))
+    AllowedSet::new(s).map_or(0, |s| public_count(s.numbers()).div_ceil(2))
 }
 
 #[tactic(auto, unfolding(crate::specs::Sets::abq_bytes))]
 pub fn abq_bytes(s: Set) -> usize
     ensures { result ≡ pick (allowed_set s) (abq_bytes s) 0 }
 {
-    AllowedSet::new(s).map_or(0, |s| abq_count(s).div_ceil(2))
+    AllowedSet::new(s).map_or(0, |s| abq_count(s.numbers()).div_ceil(2))
 }
 
 #[tactic(auto, unfolding(crate::specs::Sets::private_bytes))]
 pub fn private_bytes(s: Set) -> usize
     ensures { result ≡ pick (allowed_set s) (private_bytes s) 0 }
 {
-    AllowedSet::new(s).map_or(0, |s| private_count(s).div_ceil(2))
+    AllowedSet::new(s).map_or(0, |s| private_count(s.numbers()).div_ceil(2))
 }
 
 #[tactic(auto, unfolding(crate::specs::Sets::vinegar_bytes))]

@@ -16,6 +16,7 @@ pub fn read_term(set: AllowedSet, abq: &[u8], i: usize, alpha: usize) -> Term
     ensures { TermOf (numbers set) abq.now i alpha result }
 {
     let l = set.l;
+    let set = set.numbers();
     let a = invertible_at(abq, l, a_number(set, i, alpha)).unwrap();
     let b = invertible_at(abq, l, b_number(set, i, alpha)).unwrap();
     let q1 = coefficients_of(abq, l, q1_number(set, i, alpha));

@@ -33,7 +33,7 @@ pub fn accepts(
     let mut list = [0u8; LIST_ROOM];
     tables::unpack_all(&mut list, signature, sets::signature_count(set));
     let mut values = [0u8; MOST_ROW];
-    public_map::evaluate(&mut values, set, public, abq, key, &list);
+    public_map::evaluate(&mut values, set.numbers(), public, abq, key, &list);
     let n = sets::target_count(set);
     first_difference(&values, target, n) == n
 }

@@ -1,7 +1,8 @@
 -- `checks::check_verdict` meets its contract: the lengths refuse first; where they do not, 21 decides. Rests on Checked.
-use Rattle.std.proofs.Common.{[], ◌∷◌, length, rules, refl, sym, ap, ◌∙◌, true≢false}
+use Rattle.std.proofs.Common.{[], ◌∷◌, length, rules, refl, sym, ap, ◌∙◌}
 use Rattle.ground.specs.Answers.{number_of}
 use Rattle.ground.specs.AnswerLaws.{answer-done, code-some}
+use Rattle.sets.proofs.Bounds.{bounds}
 use Rattle.refusals.specs.Rules.{verdict_rules}
 use Rattle.refusals.specs.Fits.{verdict-fits}
 use Rattle.scheme.specs.Refusals.{invertible_rule, verdict_refusals}
@@ -15,19 +16,12 @@ returns-in_err-verdict_refusal c =
     let refused = sym (ap number_of c.in_err-verdict_refusal.was) ∙ c.verdict_refusal.ensures in
     rw (← length-refused (verdict_rules a.set (length a.public.now) (length a.abq.now) (length a.target.now) (length a.key.now) (length a.signature.now)) (invertible_rule a.set a.abq.now ∷ []) refused (code-some _)) (search rules)
 
-pub returns-in_err-set : goal.returns-in_err-set
-returns-in_err-set c =
-    let a = c.args in
-    let fits = verdict-fits a.set (length a.public.now) (length a.abq.now) (length a.target.now) (length a.key.now) (length a.signature.now)
-    (answer-done _ c.verdict_refusal.ensures c.in_ok-verdict_refusal.was) in
-    absurd (true≢false (sym fits.allowed ∙ c.in_err-set.ensures.refused.1))
-
 pub all_invertible-requires : goal.all_invertible-requires
 all_invertible-requires c =
     let a = c.args in
     let fits = verdict-fits a.set (length a.public.now) (length a.abq.now) (length a.target.now) (length a.key.now) (length a.signature.now)
     (answer-done _ c.verdict_refusal.ensures c.in_ok-verdict_refusal.was) in
-    rw c.in_ok-set.ensures.made fits.abq
+    (bounds a.set fits.allowed, fits.abq)
 
 pub returns : goal.returns
 unfolding verdict_refusals verdict_rules
@@ -35,4 +29,4 @@ returns c =
     let a = c.args in
     contents-decide (verdict_rules a.set (length a.public.now) (length a.abq.now) (length a.target.now) (length a.key.now) (length a.signature.now))
     (invertible_rule a.set a.abq.now ∷ []) tt refl (answer-done _ c.verdict_refusal.ensures c.in_ok-verdict_refusal.was)
-    (rw c.in_ok-set.ensures.made at c.all_invertible.ensures)
+    c.all_invertible.ensures

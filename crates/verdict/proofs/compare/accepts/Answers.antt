@@ -18,7 +18,7 @@ unpack_all-requires c =
 pub evaluate-requires : goal.evaluate-requires
 evaluate-requires c =
     let b = bounds_of c.args.set in
-    let long = c.unpack_all.ensures.long ∙ length-zeros list_room in record { map_lent = record { bounds = b; public-long = c.requires.public-long; abq-lent = c.requires.abq-lent; key-long = c.requires.key-long }; l_in_bounds = (omega (arith, list-room b), b.limits.row) }
+    let long = c.unpack_all.ensures.long ∙ length-zeros list_room in rw c.numbers.ensures.itself record { map_lent = record { bounds = b; public-long = c.requires.public-long; abq-lent = c.requires.abq-lent; key-long = c.requires.key-long }; l_in_bounds = (omega (arith, list-room b), b.limits.row) }
 
 pub first_difference-requires : goal.first_difference-requires
 unfolding target_bytes
@@ -33,5 +33,5 @@ returns c =
     let b = bounds_of c.args.set in
     let whole : variables (numbers a.set) * (a.set.l * a.set.l) ≤ c.signature_count.result = omega (arith, c.signature_count.ensures, b.counts.signature) in
     compared-accepted b a.public.now a.abq.now a.key.now a.signature.now a.target.now c.target_count-n.ensures
-    (signature-values b a.public.now a.abq.now a.key.now a.signature.now whole c.unpack_all.ensures c.evaluate.ensures)
+    (signature-values b a.public.now a.abq.now a.key.now a.signature.now whole c.unpack_all.ensures (rw c.numbers.ensures.itself at c.evaluate.ensures))
     c.first_difference.ensures refl
