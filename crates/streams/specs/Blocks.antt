@@ -1,7 +1,7 @@
 -- A block of a packed stream: its bytes, and what Algorithm 2 makes of it. Elements of a stream are below 16, so 10 and 23 cannot come.
 -- Rests on scheme's blocks, and on matrix's promise of Algorithm 2.
 use Rattle.std.specs.Prelude.{◌≡◌, Result, Ok, true, List, ℕ, ◌+◌, ◌*◌, ◌/◌, ◌%◌, ◌<◌, ◌≤◌}
-use Rattle.std.proofs.Common.{sym, ap, ◌∙◌, arith}
+use Rattle.std.proofs.Common.{ap, ◌∙◌, arith}
 use borrow.Author.Tests.{lt-ltb, le-ltb}
 use Rattle.std.proofs.Math.Arith.{digits_lt}
 use Rattle.ground.specs.Pick.{pick}

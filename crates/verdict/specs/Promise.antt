@@ -1,6 +1,6 @@
 -- What verification promises: the verdict is that of the first refusal, and where there is none that of the comparison (page 01, "Numbers a caller can receive").
 -- Rests on scheme's refusals and `accepted`, and on ground's answers.
-use Rattle.std.specs.Prelude.{◌≡◌, Bool, List, ℕ, Result}
+use Rattle.std.specs.Prelude.{Bool, List, ℕ, Result}
 use Rattle.ground.specs.Pick.{pick}
 use Rattle.ground.specs.Answers.{first, numbered, Gives}
 use Rattle.ground.specs.declared.Refusal.{Refusal}

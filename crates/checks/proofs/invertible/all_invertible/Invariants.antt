@@ -1,5 +1,4 @@
 -- `checks::all_invertible` meets its contract. The invariant: the first b blocks pass; the first that does not decides.
-use Rattle.std.proofs.Common.{◌-◌}
 use Rattle.checks.specs.Passing.{Passing}
 use Rattle.checks.proofs.invertible.all_invertible.Given as goal
 

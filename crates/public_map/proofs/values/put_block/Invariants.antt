@@ -1,5 +1,5 @@
 -- `public_map::values::put_block` meets its contract. The invariant: the first e places hold their entries.
-use Rattle.std.proofs.Common.{◌*◌, ◌/◌, ◌%◌, ◌-◌, ◌≤◌}
+use Rattle.std.proofs.Common.{◌*◌, ◌/◌, ◌%◌, ◌≤◌}
 use Rattle.ground.specs.Segment.{Segment}
 use Rattle.matrix.specs.Block.{view}
 use Rattle.public_map.proofs.values.put_block.Given as goal
