@@ -1,6 +1,6 @@
 -- A block as the code makes it: its opening, its payload with the padding, then its check.
 -- Rests on Codec and on ground's Segment.
-use Rattle.std.specs.Prelude.{◌≡◌, ℕ, zero, suc, ◌+◌, ◌-◌, ◌*◌, ◌%◌, ◌^◌, ◌<◌, ◌≤◌, List, [], ◌∷◌, ◌++◌, length, replicate, slice_index, slice_index_or, take, min}
+use Rattle.std.specs.Prelude.{◌≡◌, ℕ, zero, suc, ◌+◌, ◌-◌, ◌*◌, ◌%◌, ◌^◌, ◌<◌, ◌≤◌, List, [], ◌∷◌, ◌++◌, length, replicate, slice_index, slice_index_or, min}
 use Rattle.std.proofs.Math.Path.{refl, sym, ap}
 use Rattle.std.proofs.Common.{subst, ◌∙◌, zero-add}
 use Rattle.std.proofs.Math.Decide.{dec_lt}
@@ -8,8 +8,8 @@ use native.Mathlib.Omega.{arith}
 use Rattle.std.proofs.Math.ListN.{length-append, get_or-append}
 use Rattle.std.proofs.lemmas.List.{length-replicate}
 use Rattle.std.proofs.Math.Seq.{ext_get_or}
-use Rattle.std.proofs.Common.{rules, length-take-le}
-use Rattle.std.proofs.lemmas.List.{places, get_or-take, get_or-replicate, get_or_past}
+use Rattle.std.proofs.Common.{rules}
+use Rattle.std.proofs.lemmas.List.{places, get_or-replicate, get_or_past}
 use borrow.Rule.Slice.PartMut.{put_mid}
 use Rattle.ground.specs.Segment.{Segment}
 use Rattle.blocks.specs.declared.Head.{Head}
@@ -23,29 +23,29 @@ part_with h d = record { head = h; payload = d }
 abbrev pub opening_of : Head → ℕ → List ℕ
 opening_of h n = two h.exercise ++ ((h.kind ∷ 0 ∷ []) ++ (two h.part ++ two n))
 
--- some bytes of x, and zeros in the place of those that it lacks
-pub put-parts : {s y z : List ℕ} (x : List ℕ) (at n m : ℕ) → at + n ≤ length s → m ≡ min n (length x) → y ≡ take m x → z ≡ replicate (n - m) 0
-    → Segment s at n (λ k. slice_index x k) (put_mid (at + m) (at + n - (at + m)) (put_mid at (at + m - at) s y) z)
-put-parts {s} {y} {z} x at n m fits least ey ez =
-    let ly : length y ≡ m = rw ey (length-take-le m x (omega arith)) in
+pub segment-at : {s t : List ℕ} {base m n : ℕ} {f : ℕ → ℕ} → Segment s base m f t → m ≡ n → Segment s base n f t
+segment-at {s} {t} {base} {f = f} g e = subst (λ k. Segment s base k f t) e g
+
+-- the first bytes of x are put, and zeros go to the place of those that it lacks
+pub put-zeros : {s t z : List ℕ} (x : List ℕ) (at n m : ℕ) → at + n ≤ length s → m ≡ min n (length x) → Segment s at m (λ k. slice_index x k) t → z ≡ replicate (n - m) 0
+    → Segment s at n (λ k. slice_index x k) (put_mid (at + m) (at + n - (at + m)) t z)
+put-zeros {s} {t} {z} x at n m fits least g ez =
+    let lt = g.long in
     let lz : length z ≡ n - m = rw ez (length-replicate (n - m) 0) in
     record {
-      long = search (rules, places);
+      long = (let same : length (put_mid (at + m) (at + n - (at + m)) t z) ≡ length t = search (rules, places) in same) ∙ g.long;
       inside = λ k h.
           elim (dec_lt k m) [
             | yes l ↦
-                let read : slice_index (put_mid (at + m) (at + n - (at + m)) (put_mid at (at + m - at) s y) z) (at + k) ≡ slice_index y k = search (rules, places) in
-                read ∙ rw ey (get_or-take m x k 0 l)
+                let read : slice_index (put_mid (at + m) (at + n - (at + m)) t z) (at + k) ≡ slice_index t (at + k) = search (rules, places) in
+                read ∙ g.inside k l
             | no l ↦
-                let read : slice_index (put_mid (at + m) (at + n - (at + m)) (put_mid at (at + m - at) s y) z) (at + k) ≡ slice_index z (k - m) = search (rules, places) in
+                let read : slice_index (put_mid (at + m) (at + n - (at + m)) t z) (at + k) ≡ slice_index z (k - m) = search (rules, places) in
                 read ∙ rw ez (get_or-replicate (n - m) (k - m) 0 0 (omega arith)) ∙ sym (get_or_past x k 0 (omega arith))
           ];
-      low = λ k h. search (rules, places);
-      high = λ k h. search (rules, places);
+      low = λ k h. (let read : slice_index (put_mid (at + m) (at + n - (at + m)) t z) k ≡ slice_index t k = search (rules, places) in read) ∙ g.low k h;
+      high = λ k h. (let read : slice_index (put_mid (at + m) (at + n - (at + m)) t z) k ≡ slice_index t k = search (rules, places) in read) ∙ g.high k (omega arith);
     }
-
-pub segment-at : {s t : List ℕ} {base m n : ℕ} {f : ℕ → ℕ} → Segment s base m f t → m ≡ n → Segment s base n f t
-segment-at {s} {t} {base} {f = f} g e = subst (λ k. Segment s base k f t) e g
 
 -- padding a list with zeros changes nothing that `get_or` sees
 zeros-zero : (n k : ℕ) → slice_index_or {A = ℕ} (replicate n 0) k 0 ≡ 0

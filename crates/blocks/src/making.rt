@@ -33,7 +33,10 @@ pub fn put(block: &mut [u8], at: usize, n: usize, src: &[u8])
     ensures { Segment block.old at n (λ k. slice_index src.now k) block.new }
 {
     let m = n.min(src.len());
-    block[at..at + m].copy_from_slice(&src[..m]);
+    // no copy_from_slice: it becomes a call of memmove, and the archive needs memcpy and memset alone
+    for k in 0..m {
+        block[at + k] = src[k];
+    }
     block[at + m..at + n].fill(0);
 }
 

@@ -13,7 +13,6 @@ use Rattle.ground.specs.Paste.{Pasted, length-pasted, pasted-none, pasted-then, 
 use Rattle.blocks.specs.declared.Head.{Head}
 use Rattle.blocks.specs.Block.{head_of, size_of, payload_of, block_at, IsBlock, Part}
 use Rattle.blocks.specs.Steps.{length-block-at}
-use Rattle.books.specs.declared.FieldAt.{FieldAt}
 use Rattle.books.specs.Book.{book_parts, at_block, at-end}
 use Rattle.books.specs.Fields.{continues}
 use Rattle.books.specs.Cursor.{run, run_bytes, bytes_of, field_at, bytes_at}

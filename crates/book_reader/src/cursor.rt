@@ -66,9 +66,9 @@ fn put_part(output: &mut [u8], at: usize, bytes: &[u8]) -> usize
     requires { at + length bytes.now ≤ length output.old }
     ensures { (result ≡ at + length bytes.now) × Pasted output.old at bytes.now output.new }
 {
-    let end = at + bytes.len();
-    output[at..end].copy_from_slice(bytes);
-    end
+    let n = bytes.len();
+    blocks::put(output, at, n, bytes);
+    at + n
 }
 
 // The parts of the field that begins at block b go into the output, which has their length.
