@@ -8,7 +8,7 @@ use Rattle.books.specs.Book.{read_number}
 use Rattle.books.specs.Cursor.{bytes_at}
 use Rattle.book_writer.specs.Lists.{Written, unique-write}
 use Rattle.book_reader.specs.Told.{payload_refusal, Tells}
-use Rattle.book_reader.specs.Unique.{unique-field}
+use Rattle.book_reader.specs.Unique.{unique-field-number}
 use Rattle.ground.specs.declared.Refusal.{Refusal}
 use Rattle.ground.specs.AnswerLaws.{unique-answer}
 use Rattle.salvage.specs.Salvages.{Salvages, unique-salvage}
@@ -63,7 +63,7 @@ unique-snova-book-read book a b = same_number a b (unique-answer a.meets b.meets
 
 pub unique-snova-book-field : (book : List ℕ) (block : ℕ) (numbers : List ℕ) {n n' : ℕ} {s s' : List ℕ} → BookField book block numbers n s → BookField book block numbers n' s'
     → (n ≡ n') × (s ≡ s')
-unique-snova-book-field book block numbers a b = unique-field a b
+unique-snova-book-field book block numbers a b = unique-field-number a b
 
 pub unique-snova-book-payload : (book : List ℕ) (block : ℕ) (output : List ℕ) {n n' : ℕ} {s s' : List ℕ} → BookPayload book block output n s
     → BookPayload book block output n' s' → (n ≡ n') × (s ≡ s')
