@@ -1,10 +1,11 @@
 -- What the functions of the reader promise that write into a lent buffer: a field's numbers, and its bytes. The reader's refusals come first, then 20.
 -- Rests on books' Cursor.
-use Rattle.std.specs.Prelude.{◌≡◌, Option, Some, None, Result, List, [], ◌∷◌, ℕ, ◌/◌, ◌≤◌, eqb, length, drop, set}
+use Rattle.std.specs.Prelude.{◌≡◌, Option, Some, None, Result, Err, List, [], ◌∷◌, ℕ, ◌/◌, ◌≤◌, eqb, length, drop, set}
 use Rattle.std.proofs.Math.Path.{refl, sym, ap}
 use Rattle.std.proofs.Common.{◌∙◌, arith, drop_of_length-le, eq-eqb, ne_eqb}
 use Rattle.ground.specs.Pick.{pick}
 use Rattle.ground.specs.Answers.{Answer, numbered, number_of as answer_number}
+use Rattle.ground.specs.AnswerLaws.{code-some}
 use Rattle.ground.specs.declared.Refusal.{Refusal}
 use Rattle.ground.specs.Outcome.{Writes}
 use Rattle.books.specs.declared.FieldAt.{FieldAt}
@@ -93,6 +94,10 @@ module _ (s : List ℕ) (b : ℕ) (before : List ℕ) where
   payload-refused {n} e z a =
       let is = read_first s (copy_refusal s b before) e z in
       record { answer = a ∙ sym is; refused = λ h. refl; done = λ h. absurd (z (sym is ∙ h)) }
+
+  -- a refusal of the reader is handed up
+  pub payload_handed_up : (r : Refusal) {a : Answer} → answer_number a ≡ read_number s → a ≡ Err r → Writes (payload_refusal s b before) (bytes_at s b) before (Err r) before
+  payload_handed_up r e is = payload-refused (sym (ap answer_number is) ∙ e) (code-some r) refl
 
   pub payload-passed : {n : ℕ} {r : Answer} {t : List ℕ} → n ≡ read_number s → n ≡ 0 → Writes (copy_refusal s b before) (bytes_at s b) before r t
       → Writes (payload_refusal s b before) (bytes_at s b) before r t

@@ -40,6 +40,7 @@ pub fn field(book: &[u8], b: usize, numbers: &mut [u64]) -> Result<Next, Refusal
 }
 
 // The bytes of the field that begins at block b. The reader's refusals, then 20.
+#[tactic(auto, using(crate::specs::Told::payload_handed_up))]
 pub fn payload(book: &[u8], b: usize, output: &mut [u8]) -> Result<(), Refusal>
     ensures { Writes (payload_refusal book.now b output.old) (bytes_at book.now b) output.old result output.new }
 {
