@@ -64,6 +64,7 @@ fn decode_all(digits: &[u8], out: &mut [u8])
 
 // Decodes a whole hexadecimal value. 32: not a digit; 31: an odd count; 20: an output of another length.
 // Like packing's pack, the check and then the work: no plainer.
+#[tactic(auto, using(crate::proofs::Decoding::decode_fits, crate::proofs::Decoding::decode_done, crate::proofs::Decoding::decode_refused))]
 pub fn decode(digits: &[u8], out: &mut [u8]) -> Result<(), Refusal>
     ensures { Decodes digits.now out.old result out.new }
 {
