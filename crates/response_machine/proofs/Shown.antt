@@ -25,7 +25,7 @@ use Rattle.response_machine.specs.declared.Reader.{Reader}
 use Rattle.response_format.specs.declared.Numbers.{Numbers}
 use Rattle.response_format.specs.declared.Event.{Event}
 use Rattle.response_format.specs.declared.Event.TheVariants as event
-use Rattle.response_machine.specs.Shown.{closing_text, written}
+use Rattle.response_machine.specs.Shown.{closing_text, part_text, written}
 
 -- ---- the text of events
 
@@ -34,9 +34,22 @@ unfolding text_of
 text-append [] ws = refl
 text-append (v ∷ vs) ws = ap (λ x. event_text v ++ x) (text-append vs ws) ∙ sym (append_assoc (event_text v) (text_of vs) (text_of ws))
 
+text-told : (v : Event) → text_of (told (Some v)) ≡ event_text v
+unfolding text_of told event_text
+text-told (event.Byte k b) = refl
+text-told (event.Number k n) = refl
+text-told (event.Ended k) = refl
+text-told (event.Entry e) = append-nil (event_text (event.Entry e))
+text-told (event.Refused r) = append-nil (event_text (event.Refused r))
+
+part-told : (v : Option Event) → text_of (told v) ≡ part_text v
+unfolding text_of told part_text
+part-told None = refl
+part-told (Some v) = text-told v
+
 -- an event that does not tell has no text
-text-quiet : (v : Option Event) → telling v ≡ false → text_of (told v) ≡ []
-unfolding telling told text_of event_text
+text-quiet : (v : Option Event) → telling v ≡ false → part_text v ≡ []
+unfolding telling part_text event_text
 text-quiet None t = refl
 text-quiet (Some (event.Byte k b)) t = refl
 text-quiet (Some (event.Number k n)) t = refl
@@ -49,14 +62,16 @@ pub written-cut : (r : Reader) (p q : List ℕ) → written r (p ++ q) ≡ writt
 unfolding written
 written-cut r p q = ap text_of (events-append r p q) ∙ text-append (events r p) (events (fed r p) q)
 
-written_byte : (r : Reader) (b : ℕ) (p : List ℕ) → written r (b ∷ p) ≡ text_of (told (stepped r b).event) ++ written (stepped r b).reader p
+written_byte : (r : Reader) (b : ℕ) (p : List ℕ) → written r (b ∷ p) ≡ part_text (stepped r b).event ++ written (stepped r b).reader p
 unfolding written events
-written_byte r b p = text-append (told (stepped r b).event) (events (stepped r b).reader p)
+written_byte r b p =
+    text-append (told (stepped r b).event) (events (stepped r b).reader p)
+    ∙ ap (λ x. x ++ written (stepped r b).reader p) (part-told (stepped r b).event)
 
--- `feed` answers the events with a text one by one: the text of its event, and then what the rest of the piece gives
+-- `feed` answers the events with a text one by one: the text of its event, nothing where there is none, and then what the rest of the piece gives
 pub written-feed : (r : Reader) (i : ℕ) (p q : List ℕ) → drop i q ≡ p
-    → written r p ≡ text_of (told (feeds r i p).event) ++ written (feeds r i p).reader (drop (feeds r i p).at q)
-unfolding feeds text_of told
+    → written r p ≡ part_text (feeds r i p).event ++ written (feeds r i p).reader (drop (feeds r i p).at q)
+unfolding feeds part_text
 written-feed r i [] q e = ap (written r) (sym e)
 written-feed r i (b ∷ p) q e =
     written_byte r b p ∙ by (telling (stepped r b).event) refl (written-feed (stepped r b).reader (i + 1) p q (drop-next i q b p e))
@@ -68,11 +83,11 @@ written-feed r i (b ∷ p) q e =
     here = (stepped r b).event
 
     by : (t : Bool) → telling here ≡ t
-        → written after-byte p ≡ text_of (told (feeds after-byte (i + 1) p).event) ++ written (feeds after-byte (i + 1) p).reader (drop (feeds after-byte (i + 1) p).at q)
-        → text_of (told here) ++ written after-byte p
-        ≡ text_of (told (pick t (stop after-byte here (i + 1)) (feeds after-byte (i + 1) p)).event)
+        → written after-byte p ≡ part_text (feeds after-byte (i + 1) p).event ++ written (feeds after-byte (i + 1) p).reader (drop (feeds after-byte (i + 1) p).at q)
+        → part_text here ++ written after-byte p
+        ≡ part_text (pick t (stop after-byte here (i + 1)) (feeds after-byte (i + 1) p)).event
         ++ written (pick t (stop after-byte here (i + 1)) (feeds after-byte (i + 1) p)).reader (drop (pick t (stop after-byte here (i + 1)) (feeds after-byte (i + 1) p)).at q)
-    by true t h = ap (λ x. text_of (told here) ++ written after-byte x) (sym (drop-next i q b p e))
+    by true t h = ap (λ x. part_text here ++ written after-byte x) (sym (drop-next i q b p e))
     by false t h = ap (λ x. x ++ written after-byte p) (text-quiet here t) ∙ h
 
 -- ---- the text of a file
