@@ -73,7 +73,8 @@ fn main(rt: HostRuntime) -> io::Result<()> {
     };
     let last = read_all(&mut rt.stdin(), &mut out)?;
     if !responses::is_stopped(last) {
-        write_text(&mut out, responses::end_text(responses::end(last)));
+        let number = ground::number(responses::end(last));
+        write_text(&mut out, responses::end_text(number));
     }
     out.wrote
 }

@@ -1,11 +1,9 @@
 // The text of what is told, made before it is written: a value that is filled from its end.
 ghost use Rattle.std.specs.Prelude.{◌≡◌, ◌+◌, ◌%◌, []};
-ghost use Rattle.ground.specs.Answers.{code, number_of};
 ghost use Rattle.response_format.specs.Text.{entry_text, refused_text, end_text, event_text};
 ghost use Rattle.responses.specs.Placed.{placed, put, put_all, put_digits};
 
 use crate::Text;
-use ground::Refusal;
 use response_format::{Event, Numbers};
 
 // No text yet.
@@ -78,11 +76,11 @@ fn put_word(text: Text, word: &[u8]) -> Text
 }
 
 // "refused ", the number and a line feed.
-pub fn refused_text(refusal: Refusal) -> Text
-    ensures { result ≡ placed (refused_text (code refusal)) }
+pub fn refused_text(n: u32) -> Text
+    ensures { result ≡ placed (refused_text n) }
 {
     let end = put(no_text(), b'\n');
-    let number = put_decimal(end, u64::from(u32::from(refusal)));
+    let number = put_decimal(end, u64::from(n));
     put_word(number, b"refused ")
 }
 
@@ -93,18 +91,18 @@ pub fn event_text(event: Event) -> Text
 {
     match event {
         Event::Entry(e) => entry_text(e),
-        Event::Refused(refusal) => refused_text(refusal),
+        Event::Refused(refusal) => refused_text(u32::from(refusal)),
         _ => no_text(),
     }
 }
 
-// The text of the answer at a file's end: none but for a refusal.
+// The text of the refusal at a file's end: none for 0.
 #[tactic(auto, unfolding(response_format::specs::Text::end_text))]
-pub fn end_text(answer: Result<(), Refusal>) -> Text
-    ensures { result ≡ placed (end_text (number_of answer)) }
+pub fn end_text(n: u32) -> Text
+    ensures { result ≡ placed (end_text n) }
 {
-    match answer {
-        Ok(()) => no_text(),
-        Err(refusal) => refused_text(refusal),
+    if n == 0 {
+        return no_text();
     }
+    refused_text(n)
 }
