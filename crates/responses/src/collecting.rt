@@ -73,6 +73,9 @@ pub fn collect(file: &[u8], entry: usize, field: u8, out: &mut [u8]) -> Result<C
         return Ok(Collected::Absent);
     };
     let from = line.from + usize::from(label_length(field));
-    decode(&file[from..line.to], out)?;
-    Ok(Collected::Written)
+    // By `let else` and not by `?`, so that the refusal that is answered stands alone in a line, where an edit can change it.
+    let Err(refusal) = decode(&file[from..line.to], out) else {
+        return Ok(Collected::Written);
+    };
+    Err(refusal)
 }

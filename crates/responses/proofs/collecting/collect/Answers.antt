@@ -16,16 +16,15 @@ returns-in_default c =
     let a = c.args in
     collects-absent a.file.now a.entry a.field a.out.now (seeks-missing a.file.now a.entry a.field c.find.ensures (c.in_ok-line.was ∙ ap Ok c.in_default.is))
 
-pub returns-in_err-decode : goal.returns-in_err-decode
-returns-in_err-decode c =
+pub returns-in_default-decode : goal.returns-in_default-decode
+returns-in_default-decode c =
     let a = c.args in
     let l = c.in-Some.line in
     let here = seeks_line a.file.now a.entry a.field c.find.ensures c.in_ok-line.was c.in-Some.is in
     let decodes =
     subst (λ x. Decodes (take (l.to - (l.from + x)) (drop (l.from + x) a.file.now)) a.out.now c.decode.result c.decode.new.out)
     (c.from.ensures ∙ c.label_length.ensures) c.decode.ensures in
-    let is : c.from_residual-in_err-decode.result ≡ Err c.in_err-decode.field-0.0 = search rules in
-    rw is (collects-unwritten a.file.now a.entry a.field a.out.now here decodes c.in_err-decode.was)
+    collects-written a.file.now a.entry a.field a.out.now here decodes c.in_default-decode.is
 
 pub returns : goal.returns
 returns c =
@@ -35,4 +34,4 @@ returns c =
     let decodes =
     subst (λ x. Decodes (take (l.to - (l.from + x)) (drop (l.from + x) a.file.now)) a.out.now c.decode.result c.decode.new.out)
     (c.from.ensures ∙ c.label_length.ensures) c.decode.ensures in
-    collects-written a.file.now a.entry a.field a.out.now here decodes c.in_ok-decode.was
+    collects-unwritten a.file.now a.entry a.field a.out.now here decodes c.in-Err.is
