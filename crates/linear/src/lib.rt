@@ -103,7 +103,9 @@ pub fn eliminate(g: &mut [u8], n: usize) -> Result<(), Singular>
     ensures { Eliminated g.old n result g.new }
 {
     for k in 0..n {
-        let p = pivot(g, n, k).ok_or(Singular)?;
+        let Some(p) = pivot(g, n, k) else {
+            return Err(Singular);
+        };
         reduce(g, n, k, p);
     }
     Ok(())

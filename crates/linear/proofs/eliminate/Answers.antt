@@ -1,7 +1,6 @@
 -- `linear::eliminate` meets its contract. The invariant: the first k columns are the identity's, and the same vectors are sent to zero as at entry (`Progress`).
 -- The answers are `solved` and `singular`.
-use Rattle.std.specs.Prelude.{◌≡◌, Err}
-use Rattle.std.proofs.Common.{rules, arith}
+use Rattle.std.proofs.Common.{arith}
 use Rattle.std.proofs.lemmas.Grind.{common_steps}
 use Rattle.linear.specs.Progress.{progress-none, progress-next, progress-area, solved, singular}
 use Rattle.linear.proofs.eliminate.Goals as goal
@@ -12,10 +11,8 @@ loop-k-init c = progress-none c.requires
 pub pivot-requires : goal.pivot-requires
 pivot-requires c = (progress-area c.requires c.loop-k.invariant, c.loop-k-test.true)
 
-pub returns-in_err-p : goal.returns-in_err-p
-returns-in_err-p c =
-    let is : c.from_residual.result ≡ Err c.in_err-p.field-0.0 = search rules in
-    rw is (singular c.loop-k.invariant c.loop-k-test.true (grind (arith, common_steps)))
+pub returns-in_default : goal.returns-in_default
+returns-in_default c = singular c.loop-k.invariant c.loop-k-test.true (grind (arith, common_steps))
 
 pub reduce-requires : goal.reduce-requires
 reduce-requires c =
