@@ -17,6 +17,7 @@ use sets::{AllowedSet, KEY_ROOM, POWERS_ROOM, PRIVATE_ROOM, Set};
 
 // Writes the key of a public and a private stream, whole. 10: the set; 11, 13, 20: the length of the public stream, the private stream, the key.
 // A refusal leaves the key as it was.
+#[tactic(auto, unfolding(scheme::specs::Refusals::keygen_refusals))]
 pub fn generate(set: Set, public: &[u8], private: &[u8], key: &mut [u8]) -> Result<(), Refusal>
     ensures { Generates set public.now private.now key.old result key.new }
 {

@@ -6,25 +6,17 @@ use Rattle.refusals.specs.Fits.{keygen-fits}
 use Rattle.scheme.specs.Refusals.{keygen_refusals}
 use Rattle.keys.proofs.generate.Goals as goal
 
-pub returns-in_err-keygen_refusal : goal.returns-in_err-keygen_refusal
-unfolding keygen_refusals
-returns-in_err-keygen_refusal c = search rules
-
 pub returns-in_err-set : goal.returns-in_err-set
 returns-in_err-set c =
     let args = c.args in
     let fits = keygen-fits args.set (length args.public.now) (length args.private.now) (length args.key.now)
-    (answer-done _ c.keygen_refusal.ensures c.in_ok-keygen_refusal.was) in
+    (search (answer-done, rules)) in
     absurd (true≢false (sym fits.allowed ∙ c.in_err-set.ensures.refused.1))
 
 pub write_key-requires : goal.write_key-requires
 write_key-requires c =
     let args = c.args in
     let fits = keygen-fits args.set (length args.public.now) (length args.private.now) (length args.key.now)
-    (answer-done _ c.keygen_refusal.ensures c.in_ok-keygen_refusal.was) in
+    (search (answer-done, rules)) in
     let same = c.in_ok-set.ensures.made in
     record { public_len = (rw same fits.public, rw same fits.private, rw same fits.output) }
-
-pub returns : goal.returns
-unfolding keygen_refusals
-returns c = search rules
