@@ -3,7 +3,7 @@
 use Rattle.std.specs.Prelude.{◌≡◌, Result, Ok, Err, List, ℕ}
 use Rattle.std.proofs.Common.{sym, ap, ◌∙◌}
 use Rattle.ground.specs.Answers.{Answer, number_of}
-use Rattle.ground.specs.Outcome.{Writes, unique-writes, unique-equation}
+use Rattle.ground.specs.Outcome.{Writes, unique-writes}
 use Rattle.books.specs.Book.{read_number}
 use Rattle.books.specs.Cursor.{bytes_at}
 use Rattle.book_writer.specs.Lists.{Written, unique-write}
