@@ -90,6 +90,12 @@ written-feed r i (b ∷ p) q e =
     by true t h = ap (λ x. part_text here ++ written after-byte x) (sym (drop-next i q b p e))
     by false t h = ap (λ x. x ++ written after-byte p) (text-quiet here t) ∙ h
 
+-- the same, said by the list of what is told
+pub written-told : (r : Reader) (i : ℕ) (p q : List ℕ) → drop i q ≡ p
+    → written r p ≡ text_of (told (feeds r i p).event) ++ written (feeds r i p).reader (drop (feeds r i p).at q)
+written-told r i p q e =
+    written-feed r i p q e ∙ ap (λ x. x ++ written (feeds r i p).reader (drop (feeds r i p).at q)) (sym (part-told (feeds r i p).event))
+
 -- ---- the text of a file
 
 text-bytes : (k : ℕ) (v : List ℕ) → text_of (map (λ x. event.Byte k x) v) ≡ []
