@@ -90,7 +90,7 @@ written-feed r i (b ∷ p) q e =
     by true t h = ap (λ x. part_text here ++ written after-byte x) (sym (drop-next i q b p e))
     by false t h = ap (λ x. x ++ written after-byte p) (text-quiet here t) ∙ h
 
--- the same, said by the list of what is told
+-- written-feed in the words of `events`, by the list of what is told: for those outside who cite it, since nothing here does
 pub written-told : (r : Reader) (i : ℕ) (p q : List ℕ) → drop i q ≡ p
     → written r p ≡ text_of (told (feeds r i p).event) ++ written (feeds r i p).reader (drop (feeds r i p).at q)
 written-told r i p q e =
